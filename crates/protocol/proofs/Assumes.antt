@@ -1,0 +1,247 @@
+-- Each assumption is is-kept, has a chain of waits behind it, and conflicts with the others of its job: kept by every call.
+use mathlib.Core.Path.{_≡_, refl, sym, ap, _∙_, subst}
+use mathlib.Core.Bool.{Bool, true, false, not, cond, _&&_, _||_}
+use mathlib.Core.Logic.{_⊎_, inl, inr}
+use mathlib.Core.List.{List, [], _∷_, _++_, map}
+use Prim.Native.Nat.{ℕ, _<_}
+use native.Mathlib.Omega.{arith}
+use lib.Dec.{eqb, ltb}
+use lib.ListN.{length}
+use Rattle.std.proofs.shelf.Tests.{both-ways, cases-eq, eqb-true, eqb-false, eq-eqb, ne-eqb, and-parts, and-from, not-true, ltb-true, lt-ltb}
+use Rattle.terms.specs.declared.modes.Mode.{Mode}
+use Rattle.protocol.specs.declared.holdings.Holding.{Holding}
+use Rattle.protocol.specs.declared.assumptions.Assumption.{Assumption}
+use Rattle.protocol.specs.declared.assumptions.Execution.{Execution}
+use Rattle.protocol.specs.declared.assumptions.Version.{Version}
+use Rattle.terms.specs.declared.calls.Call.{Call}
+use Rattle.terms.specs.declared.calls.Call.the-variants.{Begin, Lock, Image, Commit, Abort}
+use Rattle.protocol.proofs.Runs.{Runs}
+use Rattle.protocol.specs.Holdings.{begins, opened, waits, new-waits, makers, later-makers, turn, position}
+use Rattle.protocol.specs.Image.{version-by}
+use Rattle.protocol.specs.Lists.{keep, each, In, All, Pairs, Behind}
+use Rattle.protocol.specs.Model.{Model, new, executions-of, names, job-at}
+use Rattle.protocol.specs.Pairing.{offer, stored-offer, offers, is-kept, pairing, kept-pairs}
+use Rattle.protocol.specs.Places.{has, single, join, without}
+use Rattle.protocol.specs.Settling.{survives, settled, settled-execution, settled-version, settle}
+use Rattle.protocol.specs.Step.{next}
+use Rattle.terms.specs.Rule.{Rule}
+use Rattle.protocol.specs.declared.assumptions.Offer.{Offer}
+use Rattle.protocol.specs.declared.jobs.Ending.{Ending}
+use Rattle.protocol.specs.declared.jobs.Ending.the-variants.{Committed}
+use Rattle.protocol.specs.declared.jobs.Ending.the-variants.{Aborted}
+use Rattle.protocol.proofs.Places.{disjoint-apart}
+use Rattle.protocol.proofs.Sets.{none-in, join-left, join-right, join-cases, single-is, single-in, less, less-in}
+use Rattle.protocol.proofs.Lists.{in-keep, over-keep, over-append, over-push, in-map, over-map, all-from, pairs-append, pairs-push, pairs-keep, pairs-map, pairs-each, behind-two}
+use Rattle.protocol.proofs.Waits.{waits-more, turn-waits, rest}
+use Rattle.protocol.proofs.Acyclic.{Acyclic}
+use Rattle.protocol.proofs.Assumed.{Com, Abo, Sum, Chained, chained-none, not-own, Linked, Offered, chained-more, linked-more, chained-pair, offered-stored, offered-version, linked-version, Stops, chained-settled, linked-settled, Conflict, Within, conflict-within, conflict-settled}
+use Rattle.protocol.proofs.Accepted.{Begins, Locks, Images, Commits}
+use Rattle.protocol.proofs.Makers.{Maker, makers-why, why-makers, makers-direct, after-makers, after-either, opened-turned}
+use Rattle.protocol.proofs.Shape.{Shape, over-paired, over-offers}
+
+abbrev Sep : Assumption → Type 0
+Sep a = (k : ℕ) → Com a k → Abo a k → ⊥
+
+abbrev pub ApartE : Execution → Execution → Type 0
+ApartE e f = e .job ≡ f .job → Conflict (e .assumption) (f .assumption)
+
+abbrev pub ApartV : Version → Version → Type 0
+ApartV u v = u .object ≡ v .object → u .maker ≡ v .maker → Conflict (u .assumption) (v .assumption)
+
+pub record Assumes (m : Model) : Type 0 where
+  pub e-sep : (e : Execution) → In e (m .executions) → Sep (e .assumption)
+  pub v-sep : (v : Version) → In v (m .versions) → Sep (v .assumption)
+  pub e-chain : (e : Execution) → In e (m .executions) → Chained (m .holdings) (e .job) (e .assumption)
+  pub v-chain : (v : Version) → In v (m .versions) → Linked (m .holdings) (v .maker) (v .assumption)
+  pub own-com : (v : Version) → In v (m .versions) → Com (v .assumption) (v .maker)
+  pub e-apart : Pairs ApartE (m .executions)
+  pub v-apart : Pairs ApartV (m .versions)
+
+pub assumes-new : (r l : ℕ) (values : List ℕ) → Assumes (new r l values)
+unfolding new
+assumes-new r l values = record { e-sep = λ e i. absurd i; v-sep = λ v i. absurd i; e-chain = λ e i. absurd i; v-chain = λ v i. absurd i; own-com = λ v i. absurd i; e-apart = tt; v-apart = tt }
+
+-- ---- a begin
+pub assumes-begin : (r : Rule) (m : Model) (p k a : ℕ) → Begins m p → Shape m → Assumes m → Assumes (next r m (Begin p k a))
+unfolding next
+assumes-begin r m p k a b s x = record {
+  e-sep = over-push _ (m .executions) _ (x .e-sep) (λ q c d. none-in q c);
+  v-sep = x .v-sep;
+  e-chain = over-push (λ e. Chained (m .holdings) (e .job) (e .assumption)) (m .executions) _ (x .e-chain) (chained-none (m .holdings) p);
+  v-chain = x .v-chain;
+  own-com = x .own-com;
+  e-apart = pairs-push ApartE (m .executions) _ (x .e-apart) (λ e i j. absurd (b .idle (subst (Runs m) j (s .worked-by e i .0))));
+  v-apart = x .v-apart;
+}
+
+-- ---- a lock
+abbrev assumed : Offer → Assumption
+assumed x = record { commits = x .commits; aborts = x .aborts }
+
+module _ (r : Rule) (m : Model) (p o : ℕ) (mode : Mode) (b : Locks m p o mode) (s : Shape m) (x : Assumes m) where
+  new-holding : Holding
+  new-holding = record { job = p; object = o; state = begins mode }
+
+  maker-of : (v : Version) → In v (m .versions) → v .object ≡ o → Maker (m .holdings) o (v .maker)
+  maker-of v i e = let w = s .made-by v i in record { holding = w .0; there = w .1; job = w .2; object = w .3 ∙ e; turned = w .4 }
+
+  -- who locks o is no maker of it
+  not-maker : (q : ℕ) → has (makers o (m .holdings)) q ≡ true → q ≡ p → ⊥
+  not-maker q i e = let k = makers-why (m .holdings) o q i in b .new (k .holding) (k .there) (k .job ∙ e) (k .object)
+
+  to-direct : (q : ℕ) → has (makers o (m .holdings)) q ≡ true → has (new-waits (m .holdings) new-holding) q ≡ true
+  unfolding new-holding
+  to-direct q i = makers-direct (m .holdings) new-holding q (not-maker q i) i
+
+  offered : (y : Offer) → In y (offers m o) → Offered (m .holdings) new-holding (assumed y)
+  offered =
+      over-offers _ m o (offered-stored (m .holdings) new-holding (assumed (stored-offer m o)) refl to-direct)
+      (λ v i e. offered-version (m .holdings) new-holding (v .maker) (later-makers o (v .maker) (m .holdings)) (v .assumption) (x .v-chain v i)
+      (to-direct _ (why-makers _ o _ (maker-of v i e))) (λ k l. to-direct k (after-makers (m .holdings) o (v .maker) k l)))
+
+  -- each pair has its chain, kept or not
+  pub pair-chain : (e : Execution) → In e (m .executions) → e .job ≡ p → (y : Offer) → In y (offers m o) → Chained (m .holdings ++ record { job = p; object = o; state = begins mode } ∷ []) p (pairing r m p o mode e y .assumption)
+  unfolding new-holding
+  pair-chain e i j y l = chained-pair (m .holdings) new-holding (e .assumption) (assumed y) (subst (λ q. Chained (m .holdings) q (e .assumption)) j (x .e-chain e i)) (offered y l)
+
+  OfferApart : Offer → Offer → Type 0
+  OfferApart y z = Conflict (assumed y) (assumed z)
+
+  offers-apart : Pairs OfferApart (offers m o)
+  unfolding offers OfferApart
+  offers-apart = (
+    all-from _ _ (over-map (OfferApart (stored-offer m o)) (offer (m .holdings) o) _ (over-keep _ _ (m .versions) (λ v i t.
+        (v .maker, inr (why-makers _ o _ (maker-of v i (eqb-true _ _ t)), x .own-com v i))))),
+    pairs-map ApartV OfferApart (offer (m .holdings) o) _ two (pairs-keep ApartV (λ v. eqb (v .object) o) (m .versions) (x .v-apart)),
+  )
+    where
+      two : (u v : Version) → In u (keep (λ v. eqb (v .object) o) (m .versions)) → In v (keep (λ v. eqb (v .object) o) (m .versions)) → ApartV u v → OfferApart (offer (m .holdings) o u) (offer (m .holdings) o v)
+      two u v i j a =
+          let iu = in-keep (λ v. eqb (v .object) o) (m .versions) u i in
+          let iv = in-keep (λ v. eqb (v .object) o) (m .versions) v j in
+          let ou = eqb-true (u .object) o (iu .1) in
+          let ov = eqb-true (v .object) o (iv .1) in
+          elim (cases-eq (u .maker) (v .maker)) [
+            | inl e ↦ conflict-within _ _ _ _ (record { onC = λ k c. c; onA = λ k c. join-left _ _ k c }) (record { onC = λ k c. c; onA = λ k c. join-left _ _ k c }) (a (ou ∙ sym ov) e)
+            | inr n ↦ elim (after-either (m .holdings) o (u .maker) (v .maker) n (maker-of u (iu .0) ou) (maker-of v (iv .0) ov)) [
+              | inl l ↦ (v .maker, inr (join-right _ _ _ l, x .own-com v (iv .0)))
+              | inr l ↦ (u .maker, inl (x .own-com u (iu .0), join-right _ _ _ l))
+            ]
+          ]
+
+  left-in : (e : Execution) (y : Offer) → Within (e .assumption) (pairing r m p o mode e y .assumption)
+  left-in e y = record { onC = λ k c. join-left _ _ k c; onA = λ k c. join-left _ _ k c }
+
+  right-in : (e : Execution) (y : Offer) → Within (assumed y) (pairing r m p o mode e y .assumption)
+  right-in e y = record { onC = λ k c. join-right _ _ k c; onA = λ k c. join-right _ _ k c }
+
+  kept-pairs : Execution → List Execution
+  kept-pairs e = keep (is-kept (m .robustness)) (map (pairing r m p o mode e) (offers m o))
+
+  over-kept : (P : Execution → Type 0) (e : Execution) → ((y : Offer) → P (pairing r m p o mode e y)) → (u : Execution) → In u (kept-pairs e) → P u
+  unfolding kept-pairs
+  over-kept P e f = over-keep P (is-kept (m .robustness)) (map (pairing r m p o mode e) (offers m o)) (λ u i t. over-map P (pairing r m p o mode e) (offers m o) (λ y j. f y) u i)
+
+  paired-apart : Pairs ApartE (kept-pairs r m p o mode)
+  unfolding kept-pairs executions-of OfferApart kept-pairs
+  paired-apart =
+      pairs-each ApartE ApartE kept-pairs (executions-of p m)
+      (λ e i. pairs-keep ApartE (is-kept (m .robustness)) (map (pairing r m p o mode e) (offers m o))
+      (pairs-map OfferApart ApartE (pairing r m p o mode e) (offers m o) (λ y z j l c q. conflict-within _ _ _ _ (right-in e y) (right-in e z) c) offers-apart))
+      (λ e f i j c u v k l.
+      over-kept (λ u. ApartE u v) e (λ y. over-kept (λ v. ApartE (pairing r m p o mode e y) v) f (λ z q. conflict-within _ _ _ _ (left-in e y) (left-in f z) (c q)) v l) u k)
+      (pairs-keep ApartE (names p) (m .executions) (x .e-apart))
+
+  pub assumes-lock : Assumes (next r m (Lock p o mode))
+  unfolding next new-holding
+  assumes-lock = record {
+    e-sep = over-append _ (keep (λ e. not (names p e)) (m .executions)) (kept-pairs r m p o mode)
+        (over-keep _ _ (m .executions) (λ e i t. x .e-sep e i))
+        (over-paired _ r m p o mode (λ e i j y l t. disjoint-apart _ _ (and-parts _ _ t .0)));
+    v-sep = x .v-sep;
+    e-chain = over-append (λ e. Chained (m .holdings ++ new-holding ∷ []) (e .job) (e .assumption)) (keep (λ e. not (names p e)) (m .executions)) (kept-pairs r m p o mode)
+        (over-keep _ _ (m .executions) (λ e i t. chained-more (m .holdings) _ (waits-more (m .holdings) new-holding) _ _ (x .e-chain e i)))
+        (over-paired _ r m p o mode (λ e i j y l t.
+        subst (λ q. Chained (m .holdings ++ new-holding ∷ []) q (pairing r m p o mode e y .assumption)) (sym j) (pair-chain e i j y l)));
+    v-chain = λ v i. linked-more (m .holdings) _ (waits-more (m .holdings) new-holding) _ _ (x .v-chain v i);
+    own-com = x .own-com;
+    e-apart = pairs-append ApartE (keep (λ e. not (names p e)) (m .executions)) (kept-pairs r m p o mode) (pairs-keep ApartE (λ e. not (names p e)) (m .executions) (x .e-apart)) paired-apart
+        (λ e i. let t = in-keep (λ e. not (names p e)) (m .executions) e i in over-paired _ r m p o mode (λ f j q y l u same. absurd (eqb-false _ _ (not-true _ (t .1)) (same ∙ q))));
+    v-apart = x .v-apart;
+  }
+
+-- ---- an image
+module _ (r : Rule) (m : Model) (p o : ℕ) (b : Images m p o) (s : Shape m) (c : Acyclic (m .holdings)) (x : Assumes m) where
+  -- no version-by of o by p yet
+  first-version : (v : Version) → In v (m .versions) → v .object ≡ o → v .maker ≡ p → ⊥
+  first-version v i e f =
+      let w = s .made-by v i in
+      let h = b .opens in
+      let job : w .0 .job ≡ h .0 .job = w .2 ∙ f ∙ sym (h .2) in
+      let object : w .0 .object ≡ h .0 .object = w .3 ∙ e ∙ sym (h .3) in
+      elim (behind-two (m .holdings) (w .0) (h .0) (w .1) (h .1)) [
+        | inl same ↦ opened-turned _ (w .4) (ap (λ g. opened (g .state)) same ∙ h .4)
+        | inr l ↦ elim l [ inl q ↦ s .once _ _ q job object | inr q ↦ s .once _ _ q (sym job) (sym object) ]
+      ]
+
+  made-from : Execution → Version
+  made-from e = version-by r (job-at m p) o (position p o (m .holdings)) e
+
+  pub assumes-image : Assumes (next r m (Image p o))
+  unfolding next executions-of made-from
+  assumes-image = record {
+    e-sep = x .e-sep;
+    v-sep = over-append _ (m .versions) (map made-from (executions-of p m)) (x .v-sep) (over-map _ made-from (executions-of p m) (over-keep _ _ (m .executions) (λ e i t k d f.
+        elim (join-cases _ _ k d) [
+          | inl l ↦ x .e-sep e i k l f
+          | inr l ↦ not-own (m .holdings) (c .rank) (c .falls) (e .job) (e .assumption) (x .e-chain e i) (inr (subst (Abo (e .assumption)) (sym (single-is _ _ l)) f))
+        ])));
+    e-chain = λ e i. chained-more (m .holdings) _ (turn-waits p o (m .holdings)) _ _ (x .e-chain e i);
+    v-chain = over-append (λ v. Linked (map (turn p o) (m .holdings)) (v .maker) (v .assumption)) (m .versions) (map made-from (executions-of p m))
+        (λ v i. linked-more (m .holdings) _ (turn-waits p o (m .holdings)) _ _ (x .v-chain v i))
+        (over-map _ made-from (executions-of p m) (over-keep _ _ (m .executions) (λ e i t.
+        linked-version _ (e .job) (e .assumption) (chained-more (m .holdings) _ (turn-waits p o (m .holdings)) _ _ (x .e-chain e i)))));
+    own-com = over-append _ (m .versions) (map made-from (executions-of p m)) (x .own-com) (over-map _ made-from (executions-of p m) (λ e i. join-right _ _ _ (single-in _ _ refl)));
+    e-apart = x .e-apart;
+    v-apart = pairs-append ApartV (m .versions) (map made-from (executions-of p m)) (x .v-apart)
+        (pairs-map ApartE ApartV made-from (executions-of p m) (λ e f i j a q same. conflict-within _ _ _ _ (mine e) (mine f) (a same)) (pairs-keep ApartE (names p) (m .executions) (x .e-apart)))
+        (λ v i. over-map _ made-from (executions-of p m) (over-keep _ _ (m .executions) (λ e j t q same. absurd (first-version v i q (same ∙ eqb-true _ _ t)))));
+  }
+    where
+      mine : (e : Execution) → Within (e .assumption) (made-from e .assumption)
+      mine e = record { onC = λ k i. join-left _ _ k i; onA = λ k i. i }
+
+-- ---- an end
+module _ (w : Ending) (k : ℕ) (values : List ℕ) (m : Model) (x : Assumes m) where
+  -- a Committed job waits for none
+  abbrev pub Free : Ending → Type 0
+  Free Committed = waits (m .holdings) k ≡ 0
+  Free Aborted = Unit {0}
+
+  stops : Free w → (a : Assumption) → survives w k a ≡ true → Stops (m .holdings) k a
+  stops f a t = go w f t
+    where
+      go : (w : Ending) → Free w → survives w k a ≡ true → Stops (m .holdings) k a
+      go Committed f t c q e = none-in q (ap (λ n. has n q) (sym f) ∙ e)
+      go Aborted f t c q e = both-ways _ (not-true _ t) c
+
+  left-sep : (a : Assumption) → Sep a → Sep (settled k a)
+  left-sep a d q c e = d q (less _ k q c .0) (less _ k q e .0)
+
+  pub assumes-settle : Free w → Assumes (settle w k values m)
+  unfolding settle
+  assumes-settle f = record {
+    e-sep = over-map _ (settled-execution k) _ (over-keep _ _ (m .executions) (λ e i t. left-sep _ (x .e-sep e i)));
+    v-sep = over-map _ (settled-version k) _ (over-keep _ _ (m .versions) (λ v i t. left-sep _ (x .v-sep v i)));
+    e-chain = over-map (λ e. Chained (rest k (m .holdings)) (e .job) (e .assumption)) (settled-execution k) _ (over-keep _ _ (m .executions) (λ e i t.
+        let q = and-parts _ _ t in chained-settled (m .holdings) k _ _ (eqb-false _ _ (not-true _ (q .0))) (stops f _ (q .1)) (x .e-chain e i)));
+    v-chain = over-map (λ v. Linked (rest k (m .holdings)) (v .maker) (v .assumption)) (settled-version k) _ (over-keep _ _ (m .versions) (λ v i t.
+        linked-settled (m .holdings) k _ _ (stops f _ (and-parts _ _ t .1)) (x .v-chain v i)));
+    own-com = over-map _ (settled-version k) _ (over-keep _ _ (m .versions) (λ v i t. less-in _ k _ (x .own-com v i) (eqb-false _ _ (not-true _ (and-parts _ _ t .0)))));
+    e-apart = pairs-map ApartE ApartE (settled-execution k) _ (λ e g i j a same.
+        conflict-settled w k _ _ (and-parts _ _ (in-keep _ (m .executions) e i .1) .1) (and-parts _ _ (in-keep _ (m .executions) g j .1) .1) (a same))
+        (pairs-keep ApartE _ (m .executions) (x .e-apart));
+    v-apart = pairs-map ApartV ApartV (settled-version k) _ (λ e g i j a same made.
+        conflict-settled w k _ _ (and-parts _ _ (in-keep _ (m .versions) e i .1) .1) (and-parts _ _ (in-keep _ (m .versions) g j .1) .1) (a same made))
+        (pairs-keep ApartV _ (m .versions) (x .v-apart));
+  }

@@ -1,0 +1,164 @@
+-- The book follows the plain run: what each execution met, worked out and made. The statement, a new book, a begin.
+use mathlib.Core.Path.{_≡_, refl, sym, ap, _∙_, subst}
+use mathlib.Core.Bool.{Bool, true, false, not, cond, _&&_, _||_}
+use mathlib.Core.Logic.{_⊎_, inl, inr}
+use mathlib.Core.List.{List, [], _∷_, _++_, map}
+use Prim.Native.Nat.{ℕ, zero, suc, _+_, _≤_, _<_}
+use native.Mathlib.Omega.{arith}
+use lib.Dec.{eqb}
+use lib.ListN.{length, getD, set, replicate, length-set}
+use lib.Seq.{getD-set-same, getD-set-other}
+use Rattle.std.specs.declared.option.Option.{Option}
+use Rattle.std.specs.declared.option.Option.the-variants.{Some, None}
+use Rattle.std.proofs.shelf.Tests.{both-ways, false≢true, cases-eq, eqb-true, eqb-false, eq-eqb, ne-eqb, and-parts, and-from, not-true}
+use Rattle.terms.specs.declared.modes.Mode.{Mode}
+use Rattle.protocol.specs.declared.holdings.Holding.{Holding}
+use Rattle.protocol.specs.declared.assumptions.Execution.{Execution}
+use Rattle.protocol.specs.declared.assumptions.Version.{Version}
+use Rattle.protocol.specs.declared.jobs.Job.{Job}
+use Rattle.terms.specs.declared.calls.Call.{Call}
+use Rattle.terms.specs.declared.calls.Call.the-variants.{Begin, Lock, Image, Commit, Abort}
+use Rattle.protocol.proofs.Runs.{Runs}
+use Rattle.protocol.specs.Holdings.{turned, position}
+use Rattle.protocol.specs.Lists.{keep, In, is-some}
+use Rattle.protocol.specs.Model.{Model, new, job-at, kind-of, argument-of}
+use Rattle.protocol.specs.Past.{place-of, is-at}
+use Rattle.protocol.specs.PlainRun.{Playing, play-one, play, fresh, Plain, plain-one}
+use Rattle.protocol.specs.Step.{next}
+use Rattle.terms.specs.Rule.{Rule}
+use Rattle.protocol.proofs.Lists.{in-keep, over-push}
+use Rattle.protocol.proofs.Plays.{keep-push-yes, keep-push-no, keep-none, play-push}
+use Rattle.protocol.proofs.Assumed.{Com, Abo, Within}
+use Rattle.protocol.proofs.Accepted.{Begins}
+use Rattle.protocol.proofs.Before.{Before}
+use Rattle.protocol.proofs.Shape.{Shape, runs-small}
+
+abbrev pub met-at : List Holding → Execution → ℕ → ℕ
+met-at hs e o = getD (e .met) (position (e .job) o hs) 0
+
+-- ys has n values and, is-at each object that e's job holds, the value that e met
+pub record Agrees (hs : List Holding) (n : ℕ) (e : Execution) (ys : List ℕ) : Type 0 where
+  pub long : length ys ≡ n
+  pub meets : (h : Holding) → In h hs → h .job ≡ e .job → getD ys (h .object) 0 ≡ met-at hs e (h .object)
+
+-- e met the stored value of o, and takes each maker before it to abort
+pub record FromStore (hs : List Holding) (values : List ℕ) (e : Execution) (o : ℕ) : Type 0 where
+  pub value : met-at hs e o ≡ getD values o 0
+  pub before : (q : ℕ) → Before hs o q (e .job) → Abo (e .assumption) q
+
+-- e met a version, assumes what it assumes, and takes each maker in between to abort
+pub record FromVersion (hs : List Holding) (vs : List Version) (e : Execution) (o : ℕ) : Type 0 where
+  pub version : Version
+  pub there : In version vs
+  pub object : version .object ≡ o
+  pub within : Within (version .assumption) (e .assumption)
+  pub value : met-at hs e o ≡ version .value
+  pub maker : Before hs o (version .maker) (e .job)
+  pub between : (q : ℕ) → Before hs o (version .maker) q → Before hs o q (e .job) → Abo (e .assumption) q
+
+-- e's job turned o: a version that e goes with has the value that the plain run of the calls cs makes
+pub record Made (r : Rule) (cs : List Call) (hs : List Holding) (vs : List Version) (n : ℕ) (e : Execution) (o : ℕ) : Type 0 where
+  pub version : Version
+  pub there : In version vs
+  pub object : version .object ≡ o
+  pub maker : version .maker ≡ e .job
+  pub onC : (k : ℕ) → Com (version .assumption) k → Com (e .assumption) k ⊎ (k ≡ e .job)
+  pub onA : (k : ℕ) → Abo (version .assumption) k → Abo (e .assumption) k
+  pub value : (ys : List ℕ) → Agrees hs n e ys → getD (play r (fresh ys) cs .values) o 0 ≡ version .value
+
+abbrev pub Turns : List Holding → ℕ → ℕ → Type 0
+Turns hs p o = (h : Holding) × In h hs × (h .job ≡ p) × (h .object ≡ o) × (turned (h .state) ≡ true)
+
+abbrev pub ops : Plain → ℕ → List Call
+ops s p = keep (is-at p) (s .pending)
+
+pub record Follows (r : Rule) (m : Model) (s : Plain) : Type 0 where
+  pub values : m .values ≡ s .values
+  pub runs : (c : Call) → In c (s .pending) → Runs m (place-of c)
+  pub kind : (p : ℕ) → Runs m p → (ys : List ℕ) → (play r (fresh ys) (ops s p) .kind ≡ kind-of (job-at m p)) × (play r (fresh ys) (ops s p) .argument ≡ argument-of (job-at m p))
+  pub others : (p o : ℕ) → (Turns (m .holdings) p o → ⊥) → (ys : List ℕ) → getD (play r (fresh ys) (ops s p) .values) o 0 ≡ getD ys o 0
+  pub work : (e : Execution) → In e (m .executions) → (ys : List ℕ) → Agrees (m .holdings) (length (m .values)) e ys → play r (fresh ys) (ops s (e .job)) .work ≡ e .work
+  pub made : (e : Execution) → In e (m .executions) → (o : ℕ) → Turns (m .holdings) (e .job) o → Made r (ops s (e .job)) (m .holdings) (m .versions) (length (m .values)) e o
+  pub met : (e : Execution) → In e (m .executions) → (h : Holding) → In h (m .holdings) → h .job ≡ e .job
+      → FromStore (m .holdings) (m .values) e (h .object) ⊎ FromVersion (m .holdings) (m .versions) e (h .object)
+
+-- ---- one more call among the pending ones
+module _ (r : Rule) (cs : List Call) (c : Call) (q : ℕ) where
+  pub push-own : place-of c ≡ q → (ys : List ℕ) → play r (fresh ys) (keep (is-at q) (cs ++ c ∷ [])) ≡ play-one r (play r (fresh ys) (keep (is-at q) cs)) c
+  push-own e ys = ap (play r (fresh ys)) (keep-push-yes (is-at q) cs c (eq-eqb _ _ e)) ∙ play-push r (fresh ys) (keep (is-at q) cs) c
+
+  pub push-other : (place-of c ≡ q → ⊥) → keep (is-at q) (cs ++ c ∷ []) ≡ keep (is-at q) cs
+  push-other n = keep-push-no (is-at q) cs c (ne-eqb _ _ n)
+
+-- ---- a new book
+pub follows-new : (r : Rule) (x l : ℕ) (values : List ℕ) → Follows r (new x l values) (record { values = values; pending = [] })
+unfolding new play
+follows-new r x l values = record {
+  values = refl;
+  runs = λ c i. absurd i;
+  kind = λ p h ys. absurd (idle p h);
+  others = λ p o n ys. refl;
+  work = λ e i. absurd i;
+  made = λ e i. absurd i;
+  met = λ e i. absurd i;
+}
+  where
+    idle : (p : ℕ) → Runs (new x l values) p → ⊥
+    idle p h = false≢true (sym (ap is-some (none 16 p)) ∙ h)
+      where
+        none : (n p : ℕ) → _≡_ {A = Option Job} (getD (replicate n None) p None) None
+        none zero p = refl
+        none (suc n) zero = refl
+        none (suc n) (suc p) = none n p
+
+-- ---- a begin
+module _ (r : Rule) (m : Model) (s : Plain) (p k a : ℕ) (b : Begins m p) (sh : Shape m) (f : Follows r m s) where
+  begin : Call
+  begin = Begin p k a
+
+  job : Job
+  job = record { kind = k; argument = a }
+
+  -- p has no pending call, no holding, no execution
+  empty-ops : ops s p ≡ []
+  empty-ops = keep-none (is-at p) (s .pending) (λ c i t. b .idle (subst (Runs m) (eqb-true _ _ t) (f .runs c i)))
+
+  inside : p < length (m .jobs)
+  inside = omega (arith, sh .places, b .small)
+
+  other-job : (q : ℕ) → Runs m q → p ≡ q → ⊥
+  other-job q h e = b .idle (subst (Runs m) (sym e) h)
+
+  at-other : (q : ℕ) → (p ≡ q → ⊥) → getD (set (m .jobs) p (Some job)) q None ≡ getD (m .jobs) q None
+  at-other q n = getD-set-other (m .jobs) p q (Some job) None (λ e. n (sym e))
+
+  own-play : (q : ℕ) → p ≡ q → (ys : List ℕ) → play r (fresh ys) (keep (is-at q) (s .pending ++ begin ∷ [])) ≡ play-one r (fresh ys) begin
+  unfolding begin play
+  own-play q e ys = push-own r (s .pending) begin q e ys ∙ ap (λ cs. play-one r (play r (fresh ys) cs) begin) (ap (λ x. ops s x) (sym e) ∙ empty-ops)
+
+  pub follows-begin : Follows r (next r m (Begin p k a)) (plain-one r s (Begin p k a))
+  unfolding next begin job
+  follows-begin = record {
+    values = f .values;
+    runs = over-push (λ c. is-some (getD (set (m .jobs) p (Some job)) (place-of c) None) ≡ true) (s .pending) begin
+        (λ c i. ap is-some (at-other (place-of c) (other-job _ (f .runs c i))) ∙ f .runs c i) (ap is-some (getD-set-same (m .jobs) p (Some job) None inside));
+    kind = λ q h ys. elim (cases-eq p q) [
+      | inl e ↦ let j : getD (set (m .jobs) p (Some job)) q None ≡ Some job = subst (λ x. getD (set (m .jobs) p (Some job)) x None ≡ Some job) e (getD-set-same (m .jobs) p (Some job) None inside) in
+          (ap (λ t. t .kind) (own-play q e ys) ∙ sym (ap kind-of j), ap (λ t. t .argument) (own-play q e ys) ∙ sym (ap argument-of j))
+      | inr n ↦ let w = f .kind q (sym (ap is-some (at-other q n)) ∙ h) ys in let o = push-other r (s .pending) begin q n in
+          (ap (λ cs. play r (fresh ys) cs .kind) o ∙ w .0 ∙ sym (ap kind-of (at-other q n)), ap (λ cs. play r (fresh ys) cs .argument) o ∙ w .1 ∙ sym (ap argument-of (at-other q n)))
+    ];
+    others = λ q o n ys. elim (cases-eq p q) [
+      | inl e ↦ ap (λ t. getD (t .values) o 0) (own-play q e ys)
+      | inr d ↦ ap (λ cs. getD (play r (fresh ys) cs .values) o 0) (push-other r (s .pending) begin q d) ∙ f .others q o n ys
+    ];
+    work = over-push (λ e. (ys : List ℕ) → Agrees (m .holdings) (length (m .values)) e ys → play r (fresh ys) (keep (is-at (e .job)) (s .pending ++ begin ∷ [])) .work ≡ e .work) (m .executions) _
+        (λ e i ys g. ap (λ cs. play r (fresh ys) cs .work) (push-other r (s .pending) begin (e .job) (other-job _ (sh .worked-by e i .0))) ∙ f .work e i ys g)
+        (λ ys g. ap (λ t. t .work) (own-play p refl ys));
+    made = over-push (λ e. (o : ℕ) → Turns (m .holdings) (e .job) o → Made r (keep (is-at (e .job)) (s .pending ++ begin ∷ [])) (m .holdings) (m .versions) (length (m .values)) e o) (m .executions) _
+        (λ e i o t. subst (λ cs. Made r cs (m .holdings) (m .versions) (length (m .values)) e o) (sym (push-other r (s .pending) begin (e .job) (other-job _ (sh .worked-by e i .0)))) (f .made e i o t))
+        (λ o t. absurd (b .idle (subst (Runs m) (t .2) (sh .held-by (t .0) (t .1) .0))));
+    met = over-push (λ e. (h : Holding) → In h (m .holdings) → h .job ≡ e .job → FromStore (m .holdings) (m .values) e (h .object) ⊎ FromVersion (m .holdings) (m .versions) e (h .object)) (m .executions) _
+        (f .met)
+        (λ h i e. absurd (b .idle (subst (Runs m) e (sh .held-by h i .0))));
+  }

@@ -1,0 +1,157 @@
+-- Executions rely on the jobs that the history names, and there is one for each way in which these may end.
+use mathlib.Core.Path.{_≡_, refl, sym, ap, _∙_, subst, subst₂}
+use mathlib.Core.Bool.{Bool, true, false, not, cond, _&&_, _||_}
+use mathlib.Core.Logic.{_⊎_, inl, inr}
+use mathlib.Core.List.{List, [], _∷_, _++_, map}
+use Prim.Native.Nat.{ℕ, zero, suc, _+_, _≤_, _<_}
+use native.Mathlib.Omega.{arith}
+use lib.Dec.{eqb, leb}
+use lib.ListN.{length, getD, set, replicate}
+use lib.Seq.{getD-set-other}
+use Rattle.std.specs.declared.option.Option.{Option}
+use Rattle.std.specs.declared.option.Option.the-variants.{Some, None}
+use Rattle.std.proofs.shelf.Tests.{both-ways, false≢true, true≢false, cases-eq, cases-bool, eqb-true, eqb-false, eq-eqb, ne-eqb, and-parts, and-from, not-true, le-leb, cond-true, cond-false}
+use Rattle.terms.specs.declared.modes.Mode.{Mode}
+use Rattle.protocol.specs.declared.holdings.Holding.{Holding}
+use Rattle.protocol.specs.declared.assumptions.Assumption.{Assumption}
+use Rattle.protocol.specs.declared.assumptions.Execution.{Execution}
+use Rattle.protocol.specs.declared.assumptions.Version.{Version}
+use Rattle.protocol.specs.declared.jobs.Job.{Job}
+use Rattle.terms.specs.declared.calls.Call.{Call}
+use Rattle.terms.specs.declared.calls.Call.the-variants.{Begin, Lock, Image, Commit, Abort}
+use Rattle.protocol.proofs.Runs.{Runs}
+use Rattle.protocol.specs.History.{is-aborted}
+use Rattle.protocol.specs.Holdings.{makes, holds, turned, makers, later-makers, spread, position}
+use Rattle.protocol.specs.Image.{version-by}
+use Rattle.protocol.specs.Lists.{keep, each, In, Pairs, Behind, is-some}
+use Rattle.protocol.specs.Model.{Model, new, executions-of, names, job-at}
+use Rattle.protocol.specs.Pairing.{offer, stored-offer, offers, is-kept, pairing, kept-pairs}
+use Rattle.protocol.specs.Places.{has, single, join, without, size}
+use Rattle.protocol.specs.Settling.{denied, survives, settled, settled-execution, settled-version, settle}
+use Rattle.protocol.specs.Step.{next}
+use Rattle.terms.specs.Rule.{Rule}
+use Rattle.protocol.specs.declared.assumptions.Offer.{Offer}
+use Rattle.protocol.specs.declared.jobs.Ending.{Ending}
+use Rattle.protocol.specs.declared.jobs.Ending.the-variants.{Committed}
+use Rattle.protocol.specs.declared.jobs.Ending.the-variants.{Aborted}
+use Rattle.protocol.proofs.Places.{size-join, size-mono}
+use Rattle.protocol.proofs.Sets.{none-in, join-left, join-right, join-cases, single-is, less, less-in, has-less}
+use Rattle.protocol.proofs.Counts.{meet, meet-in, in-meet, apart-disjoint, size-less, size-zero}
+use Rattle.protocol.proofs.Lists.{in-keep, keep-in, over-keep, over-append, over-push, append-left, append-right, append-cases, in-map, map-in, over-map, each-in, pairs-keep, pairs-in}
+use Rattle.protocol.proofs.Reach.{spread-more, spread-next, spread-why}
+use Rattle.protocol.proofs.Assumed.{Com, Abo, Sum, Chained, not-own}
+use Rattle.protocol.proofs.Acyclic.{Acyclic}
+use Rattle.protocol.proofs.Accepted.{Begins, Locks, Images, Commits}
+use Rattle.protocol.proofs.Makers.{Maker, makers-why, why-makers, after-makers}
+use Rattle.protocol.proofs.Shape.{Shape, runs-small, runs-begun, runs-ended, ended-runs, over-paired, over-offers}
+use Rattle.protocol.proofs.Assumes.{Assumes, ApartE}
+use Rattle.protocol.proofs.Follows.{Follows, Made, Turns}
+
+-- ab: the jobs that abort in a way in which the running jobs may end. An assumption goes with it
+pub record Goes (a : Assumption) (ab : ℕ) : Type 0 where
+  pub onC : (k : ℕ) → Com a k → has ab k ≡ false
+  pub onA : (k : ℕ) → Abo a k → has ab k ≡ true
+
+-- job p has an execution that goes with ab
+abbrev pub Able : List Execution → ℕ → ℕ → Type 0
+Able es p ab = (e : Execution) × In e es × (e .job ≡ p) × Goes (e .assumption) ab
+
+pub record Relies (m : Model) (relied gone : ℕ → ℕ) : Type 0 where
+  pub running : (p : ℕ) → Runs m p → (k : ℕ) → has (relied p) k ≡ true → Runs m k × (k ≡ p → ⊥)
+  pub e-relied : (e : Execution) → In e (m .executions) → (k : ℕ) → Sum (e .assumption) k → has (relied (e .job)) k ≡ true
+  pub v-relied : (v : Version) → In v (m .versions) → (k : ℕ) → Sum (v .assumption) k → (k ≡ v .maker) ⊎ (has (relied (v .maker)) k ≡ true)
+  pub counted : (e : Execution) → In e (m .executions) → e .tally ≤ gone (e .job) + size (e .assumption .aborts)
+  pub complete : (p : ℕ) → Runs m p → (ab : ℕ) → ((k : ℕ) → has (relied p) k ≡ true → has ab k ≡ false → Able (m .executions) k ab)
+      → gone p + size (meet (relied p) ab) ≤ m .robustness → Able (m .executions) p ab
+
+-- ---- all relied-on jobs have ended: one execution
+single-list : (xs : List Execution) → (e : Execution) → In e xs → Pairs (λ e f. ⊥) xs → length xs ≡ 1
+single-list [] e i p = absurd i
+single-list (x ∷ []) e i p = refl
+single-list (x ∷ y ∷ xs) e i p = absurd (p .0 .0)
+
+pub one-execution : (m : Model) (relied gone : ℕ → ℕ) → Assumes m → Relies m relied gone → (p : ℕ) → Runs m p → ((k : ℕ) → has (relied p) k ≡ true → ⊥) → gone p ≤ m .robustness → length (executions-of p m) ≡ 1
+unfolding executions-of
+one-execution m relied gone x y p runs none few =
+    let a = y .complete p runs 0 (λ k i e. absurd (none k i)) (omega (arith, few, no-count)) in
+    single-list (executions-of p m) (a .0) (keep-in (names p) (m .executions) (a .0) (a .1) (eq-eqb _ _ (a .2)))
+    (pairs-in ApartE (λ e f. ⊥) (executions-of p m) (λ e f i j c.
+    let ie = in-keep (names p) (m .executions) e i in
+    let jf = in-keep (names p) (m .executions) f j in
+    let pe = eqb-true (e .job) p (ie .1) in
+    let pf = eqb-true (f .job) p (jf .1) in
+    let k = c (pe ∙ sym pf) in
+    elim (k .1) [ inl z ↦ empty e (ie .0) pe _ (inl (z .0)) | inr z ↦ empty e (ie .0) pe _ (inr (z .0)) ])
+    (pairs-keep ApartE (names p) (m .executions) (x .e-apart)))
+  where
+    no-count : size (meet (relied p) 0) ≤ 0
+    no-count = omega (arith, size-mono (meet (relied p) 0) 0 (λ k h. in-meet (relied p) 0 k h .1), size-zero)
+
+    empty : (e : Execution) → In e (m .executions) → e .job ≡ p → (k : ℕ) → Sum (e .assumption) k → ⊥
+    empty e i j k s = none k (subst (λ q. has (relied q) k ≡ true) j (y .e-relied e i k s))
+
+-- ---- a new book, a begin, an image
+pub relies-new : (r l : ℕ) (values : List ℕ) → ((p : ℕ) → Runs (new r l values) p → ⊥) → Relies (new r l values) (λ q. 0) (λ q. 0)
+unfolding new
+relies-new r l values idle = record { running = λ p h. absurd (idle p h); e-relied = λ e i. absurd i; v-relied = λ v i. absurd i; counted = λ e i. absurd i; complete = λ p h. absurd (idle p h) }
+
+abbrev pub reset : ℕ → (ℕ → ℕ) → ℕ → ℕ
+reset p f q = cond (eqb q p) 0 (f q)
+
+pub relies-begin : (r : Rule) (m : Model) (p k a : ℕ) (relied gone : ℕ → ℕ) → Begins m p → Shape m → Relies m relied gone → Relies (next r m (Begin p k a)) (reset p relied) (reset p gone)
+unfolding next
+relies-begin r m p k a relied gone b sh y = record {
+  running = λ q h j i. elim (cases-eq q p) [
+    | inl e ↦ none-in j (subst (λ n. has n j ≡ true) (here relied q e) i)
+    | inr n ↦ let w = y .running q (old-run q n h) j (subst (λ x. has x j ≡ true) (there relied q n) i) in (runs-begun (m .jobs) p j _ inside (w .0), w .1)
+  ];
+  e-relied = over-push (λ e. (k : ℕ) → Sum (e .assumption) k → has (reset p relied (e .job)) k ≡ true) (m .executions) _
+      (λ e i k s. subst (λ x. has x k ≡ true) (sym (there relied (e .job) (not-p _ (sh .worked-by e i .0)))) (y .e-relied e i k s))
+      (λ k. elim [ inl c ↦ none-in k c | inr c ↦ none-in k c ]);
+  v-relied = λ v i k s. let h = sh .made-by v i in
+      elim (y .v-relied v i k s) [ inl e ↦ inl e | inr e ↦ inr (subst (λ x. has x k ≡ true) (sym (there relied (v .maker) (not-p _ (subst (Runs m) (h .2) (sh .held-by (h .0) (h .1) .0))))) e) ];
+  counted = over-push (λ e. e .tally ≤ reset p gone (e .job) + size (e .assumption .aborts)) (m .executions) _
+      (λ e i. omega (arith, y .counted e i, there gone (e .job) (not-p _ (sh .worked-by e i .0)))) (omega arith);
+  complete = λ q h ab f l. elim (cases-eq q p) [
+    | inl e ↦ (begun, append-right (m .executions) _ _ (inl refl), sym e, record { onC = λ k c. none-in k c; onA = λ k c. none-in k c })
+    | inr n ↦
+        let w = y .complete q (old-run q n h) ab (λ j i u.
+        let g = f j (subst (λ x. has x j ≡ true) (sym (there relied q n)) i) u in
+        let run-j = y .running q (old-run q n h) j i .0 in
+        elim (append-cases (m .executions) _ (g .0) (g .1)) [
+          | inl o ↦ (g .0, o, g .2, g .3)
+          | inr o ↦ elim o [ inl e ↦ absurd (b .idle (subst (Runs m) (sym (ap (λ z. z .job) e ∙ g .2)) run-j)) | inr z ↦ absurd z ]
+        ])
+        (omega (arith, l, there gone q n, ap (λ x. size (meet x ab)) (there relied q n))) in
+        (w .0, append-left (m .executions) _ _ (w .1), w .2, w .3)
+  ];
+}
+  where
+    begun : Execution
+    begun = record { job = p; assumption = record { commits = 0; aborts = 0 }; work = r .start k a; tally = 0; met = replicate 8 0 }
+
+    inside : p < length (m .jobs)
+    inside = omega (arith, sh .places, b .small)
+
+    here : (f : ℕ → ℕ) (q : ℕ) → q ≡ p → reset p f q ≡ 0
+    here f q e = cond-true _ 0 (f q) (eq-eqb q p e)
+
+    there : (f : ℕ → ℕ) (q : ℕ) → (q ≡ p → ⊥) → reset p f q ≡ f q
+    there f q n = cond-false _ 0 (f q) (ne-eqb q p n)
+
+    not-p : (q : ℕ) → Runs m q → q ≡ p → ⊥
+    not-p q h e = b .idle (subst (Runs m) e h)
+
+    old-run : (q : ℕ) → (q ≡ p → ⊥) → is-some (getD (set (m .jobs) p (Some (record { kind = k; argument = a }))) q None) ≡ true → Runs m q
+    old-run q n h = sym (ap is-some (getD-set-other (m .jobs) p q (Some (record { kind = k; argument = a })) None n)) ∙ h
+
+pub relies-image : (r : Rule) (m : Model) (p o : ℕ) (relied gone : ℕ → ℕ) → Relies m relied gone → Relies (next r m (Image p o)) relied gone
+unfolding next executions-of
+relies-image r m p o relied gone y = record {
+  running = y .running;
+  e-relied = y .e-relied;
+  v-relied = over-append _ (m .versions) _ (y .v-relied) (over-map _ (version-by r (job-at m p) o (position p o (m .holdings))) _ (over-keep _ _ (m .executions) (λ e i t k.
+      elim [ inl c ↦ elim (join-cases _ _ k c) [ inl d ↦ inr (y .e-relied e i k (inl d)) | inr d ↦ inl (sym (single-is _ _ d)) ] | inr c ↦ inr (y .e-relied e i k (inr c)) ])));
+  counted = y .counted;
+  complete = y .complete;
+}

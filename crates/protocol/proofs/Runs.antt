@@ -1,0 +1,9 @@
+-- A job runs at a place.
+use mathlib.Core.Path.{_≡_}
+use mathlib.Core.Bool.{true}
+use Prim.Native.Nat.{ℕ}
+use Rattle.protocol.specs.Lists.{is-some}
+use Rattle.protocol.specs.Model.{Model, job-at}
+
+abbrev pub Runs : Model → ℕ → Type 0
+Runs m p = is-some (job-at m p) ≡ true
