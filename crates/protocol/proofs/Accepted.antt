@@ -93,7 +93,7 @@ not-nil [] e = absurd (both-ways true e refl)
 not-nil (x ∷ xs) e = (x, inl refl)
 
 pub commits-ok : (r : Rule) (m : Model) (p : ℕ) → answer r m (Commit p) ≡ None → Commits m p
-unfolding answer refusals executions-of
+unfolding answer refusals
 commits-ok r m p e =
     let f = first-none (refusals r m (Commit p)) e in
     let x = not-nil (executions-of p m) (f .1 .1 .0) in

@@ -13,10 +13,11 @@ use Rattle.protocol.specs.declared.holdings.Holding.{Holding}
 use Rattle.protocol.specs.Holdings.{waits, new-waits, reach, turn, clash}
 use Rattle.protocol.specs.Lists.{In, any}
 use Rattle.protocol.specs.Places.{has, single, join}
-use Rattle.protocol.proofs.Places.{empty}
+use Rattle.protocol.specs.Waiting.{Waits-for}
+use Rattle.protocol.proofs.PlaceLaws.{empty}
 use Rattle.protocol.proofs.Sets.{none-in}
 use Rattle.protocol.proofs.Lists.{behind-in}
-use Rattle.protocol.proofs.Waits.{Wait, waits-why, waits-push, waits-more, waits-turn, waits-rest, rest, jobs-in}
+use Rattle.protocol.proofs.Waits.{waits-why, waits-push, waits-more, waits-turn, waits-rest, rest, jobs-in}
 use Rattle.protocol.proofs.Reach.{reach-closed, reach-more}
 
 pub record Acyclic (hs : List Holding) : Type 0 where

@@ -7,6 +7,7 @@ use Prim.Native.Nat.{ℕ, _<_}
 use native.Mathlib.Omega.{arith}
 use lib.Dec.{eqb, ltb}
 use Rattle.std.proofs.shelf.Tests.{both-ways, eqb-true, eqb-false, eq-eqb, ne-eqb, or-cases, or-left, or-right, not-true, cases-eq, cases-bool, ltb-true, lt-ltb}
+use Rattle.protocol.specs.Assumptions.{commits-of, aborts-of, assume}
 use Rattle.protocol.specs.declared.holdings.Holding.{Holding}
 use Rattle.protocol.specs.declared.assumptions.Assumption.{Assumption}
 use Rattle.protocol.specs.Holdings.{waits, new-waits}
@@ -19,10 +20,10 @@ use Rattle.protocol.proofs.Sets.{none-in, join-left, join-right, join-cases, s
 use Rattle.protocol.proofs.Waits.{waits-more, direct-waits, rest, rest-waits}
 
 abbrev pub Com : Assumption → ℕ → Type 0
-Com a k = has (a .commits) k ≡ true
+Com a k = has (commits-of a) k ≡ true
 
 abbrev pub Abo : Assumption → ℕ → Type 0
-Abo a k = has (a .aborts) k ≡ true
+Abo a k = has (aborts-of a) k ≡ true
 
 abbrev pub Sum : Assumption → ℕ → Type 0
 Sum a k = Com a k ⊎ Abo a k
@@ -44,13 +45,13 @@ pub Offered : List Holding → Holding → Assumption → Type 0
 Offered hs h a = (T : ℕ → Bool) → ((q : ℕ) → has (new-waits hs h) q ≡ true → T q ≡ true) → Closes hs a T → (k : ℕ) → Sum a k → T k ≡ true
 
 abbrev pub joined : Assumption → Assumption → Assumption
-joined a b = record { commits = join (a .commits) (b .commits); aborts = join (a .aborts) (b .aborts) }
+joined a b = assume (join (commits-of a) (commits-of b)) (join (aborts-of a) (aborts-of b))
 
 pub sum-joined : (a b : Assumption) (k : ℕ) → Sum (joined a b) k → Sum a k ⊎ Sum b k
 sum-joined a b k (inl c) = elim (join-cases _ _ k c) [ inl i ↦ inl (inl i) | inr i ↦ inr (inl i) ]
 sum-joined a b k (inr c) = elim (join-cases _ _ k c) [ inl i ↦ inl (inr i) | inr i ↦ inr (inr i) ]
 
-pub chained-none : (hs : List Holding) (j : ℕ) → Chained hs j (record { commits = 0; aborts = 0 })
+pub chained-none : (hs : List Holding) (j : ℕ) → Chained hs j (assume 0 0)
 unfolding Chained
 chained-none hs j T start step k (inl e) = none-in k e
 chained-none hs j T start step k (inr e) = none-in k e
@@ -75,30 +76,30 @@ chained-pair hs h a x c f T start step k s =
     ]
 
 -- the stored value
-pub offered-stored : (hs : List Holding) (h : Holding) (x : Assumption) → x .commits ≡ 0 → ((k : ℕ) → Abo x k → has (new-waits hs h) k ≡ true) → Offered hs h x
+pub offered-stored : (hs : List Holding) (h : Holding) (x : Assumption) → commits-of x ≡ 0 → ((k : ℕ) → Abo x k → has (new-waits hs h) k ≡ true) → Offered hs h x
 unfolding Offered
 offered-stored hs h x none d T start step k (inl c) = none-in k (ap (λ n. has n k) (sym none) ∙ c)
 offered-stored hs h x none d T start step k (inr c) = start k (d k c)
 
 -- a version v of the maker m, and the makers after it
 pub offered-version : (hs : List Holding) (h : Holding) (m l : ℕ) (v : Assumption) → Linked hs m v → has (new-waits hs h) m ≡ true → ((k : ℕ) → has l k ≡ true → has (new-waits hs h) k ≡ true)
-    → Offered hs h (record { commits = v .commits; aborts = join (v .aborts) l })
+    → Offered hs h (assume (commits-of v) (join (aborts-of v) l))
 unfolding Offered Linked
 offered-version hs h m l v c i d T start step k (inl e) = c T (start m i) step k (inl e)
 offered-version hs h m l v c i d T start step k (inr e) = elim (join-cases _ _ k e) [ inl f ↦ c T (start m i) step k (inr f) | inr f ↦ start k (d k f) ]
 
 -- ---- an image
-pub linked-version : (hs : List Holding) (j : ℕ) (a : Assumption) → Chained hs j a → Linked hs j (record { commits = join (a .commits) (single j); aborts = a .aborts })
+pub linked-version : (hs : List Holding) (j : ℕ) (a : Assumption) → Chained hs j a → Linked hs j (assume (join (commits-of a) (single j)) (aborts-of a))
 unfolding Chained Linked
 linked-version hs j a c T start step k s = go s
   where
-    own : has (join (a .commits) (single j)) j ≡ true
+    own : has (join (commits-of a) (single j)) j ≡ true
     own = join-right _ _ j (single-in j j refl)
 
     all : (k : ℕ) → Sum a k → T k ≡ true
     all = c T (λ q e. step j q own start e) (λ d q i t e. step d q (join-left _ _ d i) t e)
 
-    go : Sum (record { commits = join (a .commits) (single j); aborts = a .aborts }) k → T k ≡ true
+    go : Sum (assume (join (commits-of a) (single j)) (aborts-of a)) k → T k ≡ true
     go (inl e) = elim (join-cases _ _ k e) [ inl i ↦ all k (inl i) | inr i ↦ subst (λ x. T x ≡ true) (single-is j k i) start ]
     go (inr e) = all k (inr e)
 

@@ -29,7 +29,7 @@ use Rattle.protocol.specs.declared.assumptions.Offer.{Offer}
 use Rattle.protocol.specs.declared.jobs.Ending.{Ending}
 use Rattle.protocol.specs.declared.jobs.Ending.the-variants.{Committed}
 use Rattle.protocol.specs.declared.jobs.Ending.the-variants.{Aborted}
-use Rattle.protocol.proofs.Places.{disjoint-apart}
+use Rattle.protocol.proofs.PlaceLaws.{disjoint-apart}
 use Rattle.protocol.proofs.Sets.{none-in, join-left, join-right, join-cases, single-is, single-in, less, less-in}
 use Rattle.protocol.proofs.Lists.{in-keep, over-keep, over-append, over-push, in-map, over-map, all-from, pairs-append, pairs-push, pairs-keep, pairs-map, pairs-each, behind-two}
 use Rattle.protocol.proofs.Waits.{waits-more, turn-waits, rest}
@@ -76,7 +76,7 @@ assumes-begin r m p k a b s x = record {
 
 -- ---- a lock
 abbrev assumed : Offer → Assumption
-assumed x = record { commits = x .commits; aborts = x .aborts }
+assumed x = x .assumption
 
 module _ (r : Rule) (m : Model) (p o : ℕ) (mode : Mode) (b : Locks m p o mode) (s : Shape m) (x : Assumes m) where
   new-holding : Holding
@@ -135,17 +135,17 @@ module _ (r : Rule) (m : Model) (p o : ℕ) (mode : Mode) (b : Locks m p o mode)
   right-in : (e : Execution) (y : Offer) → Within (assumed y) (pairing r m p o mode e y .assumption)
   right-in e y = record { onC = λ k c. join-right _ _ k c; onA = λ k c. join-right _ _ k c }
 
-  kept-pairs : Execution → List Execution
-  kept-pairs e = keep (is-kept (m .robustness)) (map (pairing r m p o mode e) (offers m o))
+  kept-of : Execution → List Execution
+  kept-of e = keep (is-kept (m .robustness)) (map (pairing r m p o mode e) (offers m o))
 
-  over-kept : (P : Execution → Type 0) (e : Execution) → ((y : Offer) → P (pairing r m p o mode e y)) → (u : Execution) → In u (kept-pairs e) → P u
-  unfolding kept-pairs
+  over-kept : (P : Execution → Type 0) (e : Execution) → ((y : Offer) → P (pairing r m p o mode e y)) → (u : Execution) → In u (kept-of e) → P u
+  unfolding kept-of
   over-kept P e f = over-keep P (is-kept (m .robustness)) (map (pairing r m p o mode e) (offers m o)) (λ u i t. over-map P (pairing r m p o mode e) (offers m o) (λ y j. f y) u i)
 
   paired-apart : Pairs ApartE (kept-pairs r m p o mode)
-  unfolding kept-pairs executions-of OfferApart kept-pairs
+  unfolding kept-pairs OfferApart kept-of
   paired-apart =
-      pairs-each ApartE ApartE kept-pairs (executions-of p m)
+      pairs-each ApartE ApartE kept-of (executions-of p m)
       (λ e i. pairs-keep ApartE (is-kept (m .robustness)) (map (pairing r m p o mode e) (offers m o))
       (pairs-map OfferApart ApartE (pairing r m p o mode e) (offers m o) (λ y z j l c q. conflict-within _ _ _ _ (right-in e y) (right-in e z) c) offers-apart))
       (λ e f i j c u v k l.
@@ -188,7 +188,7 @@ module _ (r : Rule) (m : Model) (p o : ℕ) (b : Images m p o) (s : Shape m) (c 
   made-from e = version-by r (job-at m p) o (position p o (m .holdings)) e
 
   pub assumes-image : Assumes (next r m (Image p o))
-  unfolding next executions-of made-from
+  unfolding next made-from
   assumes-image = record {
     e-sep = x .e-sep;
     v-sep = over-append _ (m .versions) (map made-from (executions-of p m)) (x .v-sep) (over-map _ made-from (executions-of p m) (over-keep _ _ (m .executions) (λ e i t k d f.

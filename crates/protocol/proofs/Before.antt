@@ -12,8 +12,9 @@ use Rattle.protocol.specs.declared.holdings.Holding.{Holding}
 use Rattle.protocol.specs.Holdings.{holds, turned, opened, reading, turn, turn-state, waits, later-makers, makers}
 use Rattle.protocol.specs.Lists.{keep, In, Behind}
 use Rattle.protocol.specs.Places.{has}
+use Rattle.protocol.specs.Waiting.{Waits-for}
 use Rattle.protocol.proofs.Lists.{behind-in, behind-two, behind-append, behind-last, push-cases, in-keep-behind, keep-behind, in-map-behind, map-behind}
-use Rattle.protocol.proofs.Waits.{Wait, why-waits, rest}
+use Rattle.protocol.proofs.Waits.{why-waits, rest}
 use Rattle.protocol.proofs.Makers.{Maker, reading-turned, why-after, after-why}
 
 pub record Before (hs : List Holding) (o q j : ℕ) : Type 0 where

@@ -119,7 +119,7 @@ module _ (r : Rule) (m : Model) (s : Plain) (w : Ending) (k : ℕ) (values′ : 
     ];
     work = over-map (λ e. (ys : List ℕ) → Agrees hs′ (length values′) e ys → play r (fresh ys) (keep (is-at (e .job)) pending′) .work ≡ e .work) (settled-execution k) _ (over-keep _ _ (m .executions) (λ e i t ys g.
         let d = left e t in ap (λ cs. play r (fresh ys) cs .work) (ops-other (s .pending) k (e .job) d) ∙ f .work e i ys (agrees-old e d ys g)));
-    made-value = over-map (λ e. (o : ℕ) → Turns hs′ (e .job) o → Made r (keep (is-at (e .job)) pending′) hs′ (settle w k values′ m .versions) (length values′) e o) (settled-execution k) _
+    made = over-map (λ e. (o : ℕ) → Turns hs′ (e .job) o → Made r (keep (is-at (e .job)) pending′) hs′ (settle w k values′ m .versions) (length values′) e o) (settled-execution k) _
         (over-keep _ _ (m .executions) (λ e i t. made-left e i (left e t) (and-parts _ _ t .1)));
     met = over-map (λ e. (h : Holding) → In h hs′ → h .job ≡ e .job → FromStore hs′ values′ e (h .object) ⊎ FromVersion hs′ (settle w k values′ m .versions) e (h .object)) (settled-execution k) _
         (over-keep _ _ (m .executions) (λ e i t h j q. met′ e i (left e t) (and-parts _ _ t .1) h (in-keep _ hs h j .0) q));

@@ -97,7 +97,6 @@ module _ (r : Rule) (m : Model) (s : Plain) (p o : ℕ) (b : Images m p o) (sh :
   -- ---- the new versions
   module _ (e : Execution) (ie : In e (m .executions)) (je : p ≡ e .job) where
     there-new : In (made-from e) vs′
-    unfolding executions-of
     there-new = append-right (m .versions) _ _ (map-in made-from (executions-of p m) e (keep-in (names p) (m .executions) e ie (eq-eqb _ _ (sym je))))
 
     push : (ys : List ℕ) → play r (fresh ys) (keep (is-at (e .job)) (s .pending ++ image ∷ [])) ≡ play-one r (play r (fresh ys) (ops s (e .job))) image
@@ -119,7 +118,7 @@ module _ (r : Rule) (m : Model) (s : Plain) (p o : ℕ) (b : Images m p o) (sh :
     made-own : (x : ℕ) → Turns hs′ (e .job) x → Made r (keep (is-at (e .job)) (s .pending ++ image ∷ [])) hs′ vs′ n e x
     made-own x t = elim (cases-eq x o) [
       | inl d ↦ record {
-        version-by = made-from e;
+        version = made-from e;
         there = there-new;
         object = sym d;
         maker = refl;
@@ -130,7 +129,7 @@ module _ (r : Rule) (m : Model) (s : Plain) (p o : ℕ) (b : Images m p o) (sh :
       | inr d ↦ elim (turns-old (e .job) x t) [
         | inr z ↦ absurd (d (z .1))
         | inl u ↦ let w = f .made e ie x u in record {
-          version-by = w .version;
+          version = w .version;
           there = append-left (m .versions) _ _ (w .there);
           object = w .object;
           maker = w .maker;
@@ -145,7 +144,7 @@ module _ (r : Rule) (m : Model) (s : Plain) (p o : ℕ) (b : Images m p o) (sh :
   made-other e ie d x t = elim (turns-old (e .job) x t) [
     | inr z ↦ absurd (d (sym (z .0)))
     | inl u ↦ let w = f .made e ie x u in record {
-      version-by = w .version;
+      version = w .version;
       there = append-left (m .versions) _ _ (w .there);
       object = w .object;
       maker = w .maker;
@@ -158,7 +157,7 @@ module _ (r : Rule) (m : Model) (s : Plain) (p o : ℕ) (b : Images m p o) (sh :
   met-turn : (e : Execution) (x : ℕ) → FromStore hs (m .values) e x ⊎ FromVersion hs (m .versions) e x → FromStore hs′ (m .values) e x ⊎ FromVersion hs′ vs′ e x
   met-turn e x (inl w) = inl (record { value = ap (λ i. getD (e .met) i 0) (index-turn p o (e .job) x hs) ∙ w .value; before = λ q c. w .before q (before-old x q _ c) })
   met-turn e x (inr w) = inr (record {
-    version-by = w .version;
+    version = w .version;
     there = append-left (m .versions) _ _ (w .there);
     object = w .object;
     within = w .within;

@@ -11,6 +11,7 @@ use lib.Seq.{getD-set-same, getD-set-other}
 use Rattle.std.proofs.shelf.Tests.{both-ways, false≢true, cases-eq, eqb-true, eqb-false, eq-eqb, ne-eqb, and-parts, and-from, not-true}
 use Rattle.terms.specs.declared.modes.Mode.{Mode}
 use Rattle.terms.specs.declared.modes.Mode.the-variants.{Read, Write}
+use Rattle.protocol.specs.Assumptions.{commits-of, aborts-of}
 use Rattle.protocol.specs.declared.holdings.Holding.{Holding}
 use Rattle.protocol.specs.declared.assumptions.Execution.{Execution}
 use Rattle.protocol.specs.declared.assumptions.Version.{Version}
@@ -106,14 +107,12 @@ module _ (r : Rule) (m : Model) (s : Plain) (p o : ℕ) (mode : Mode) (b : Locks
     e′ = pairing r m p o mode e y
 
     slot : position (e .job) o hs′ ≡ holding-count m p
-    unfolding holding-count
     slot = ap (λ q. position q o hs′) je ∙ index-new p o hs h′ (b .new) refl refl
 
     new-met : met-at hs′ e′ o ≡ y .value
     new-met = ap (λ x. getD (set (e .met) (holding-count m p) (y .value)) x 0) slot ∙ getD-set-same (e .met) (holding-count m p) (y .value) 0 (omega (arith, b .few, sh .worked-by e ie .1))
 
     old-met : (h : Holding) → In h hs → h .job ≡ e .job → met-at hs′ e′ (h .object) ≡ met-at hs e (h .object)
-    unfolding holding-count
     old-met h i j =
         let less = index-less (e .job) (h .object) hs h i j refl in
         let same = ap (λ q. length (keep (held-by q) hs)) je in
@@ -180,16 +179,16 @@ module _ (r : Rule) (m : Model) (s : Plain) (p o : ℕ) (mode : Mode) (b : Locks
   met-here e ie je y iy = over-offers (λ z. z ≡ y → FromStore hs′ (m .values) (e′ e ie je y iy) o ⊎ FromVersion hs′ (m .versions) (e′ e ie je y iy) o) m o
       (λ same. inl (record {
         value = new-met e ie je y iy ∙ sym (ap (λ z. z .value) same);
-        before = λ q c. join-right _ _ q (subst (λ (z : Offer). has (z .aborts) q ≡ true) same (why-makers hs o q (maker-before q c)));
+        before = λ q c. join-right _ _ q (subst (λ (z : Offer). has (aborts-of (z .assumption)) q ≡ true) same (why-makers hs o q (maker-before q c)));
       }))
       (λ v i d same. inr (record {
         version = v;
         there = i;
         object = d;
-        within = record { onC = λ k c. join-right _ _ k (subst (λ (z : Offer). has (z .commits) k ≡ true) same c); onA = λ k c. join-right _ _ k (subst (λ (z : Offer). has (z .aborts) k ≡ true) same (join-left _ _ k c)) };
+        within = record { onC = λ k c. join-right _ _ k (subst (λ (z : Offer). has (commits-of (z .assumption)) k ≡ true) same c); onA = λ k c. join-right _ _ k (subst (λ (z : Offer). has (aborts-of (z .assumption)) k ≡ true) same (join-left _ _ k c)) };
         value = new-met e ie je y iy ∙ sym (ap (λ z. z .value) same);
         maker = subst (λ q. Before hs′ o (v .maker) q) (sym je) (before-new hs h′ o (v .maker) refl (let w = sh .made-by v i in record { holding = w .0; there = w .1; job = w .2; object = w .3 ∙ d; turned = w .4 }));
-        between = λ q c l. join-right _ _ q (subst (λ (z : Offer). has (z .aborts) q ≡ true) same (join-right _ _ q
+        between = λ q c l. join-right _ _ q (subst (λ (z : Offer). has (aborts-of (z .assumption)) q ≡ true) same (join-right _ _ q
             (elim (before-push hs h′ o (v .maker) q c) [
               | inl c′ ↦ after-before hs o (v .maker) q c′ (maker-before q l) (sh .once)
               | inr c′ ↦ let mk = maker-before q l in absurd (b .new (mk .holding) (mk .there) (mk .job ∙ sym (c′ .0)) (mk .object))

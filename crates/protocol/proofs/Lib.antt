@@ -1,5 +1,5 @@
 pub mod Runs
-pub mod Places
+pub mod PlaceLaws
 pub mod Cases
 pub mod Sets
 pub mod Counts

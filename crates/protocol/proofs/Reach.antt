@@ -9,7 +9,7 @@ use lib.Count.{onesIn}
 use Rattle.std.proofs.shelf.Tests.{cases-lt, true≢false}
 use Rattle.protocol.specs.Holdings.{spread, rounds, reach}
 use Rattle.protocol.specs.Places.{has, join, size}
-use Rattle.protocol.proofs.Places.{has-suc, has-first, Digit, d0, d1, digit-of, ones-mono, size-mono}
+use Rattle.protocol.proofs.PlaceLaws.{has-suc, has-first, Digit, d0, d1, digit-of, ones-mono, size-mono}
 use Rattle.protocol.proofs.Sets.{join-left, join-right, join-cases, cond-in, in-cond}
 
 -- ---- sets of one size, one in the other, have the same members

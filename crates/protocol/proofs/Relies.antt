@@ -12,6 +12,7 @@ use Rattle.std.specs.declared.option.Option.{Option}
 use Rattle.std.specs.declared.option.Option.the-variants.{Some, None}
 use Rattle.std.proofs.shelf.Tests.{both-ways, false≢true, true≢false, cases-eq, cases-bool, eqb-true, eqb-false, eq-eqb, ne-eqb, and-parts, and-from, not-true, le-leb, cond-true, cond-false}
 use Rattle.terms.specs.declared.modes.Mode.{Mode}
+use Rattle.protocol.specs.Assumptions.{aborts-of, assume}
 use Rattle.protocol.specs.declared.holdings.Holding.{Holding}
 use Rattle.protocol.specs.declared.assumptions.Assumption.{Assumption}
 use Rattle.protocol.specs.declared.assumptions.Execution.{Execution}
@@ -34,7 +35,7 @@ use Rattle.protocol.specs.declared.assumptions.Offer.{Offer}
 use Rattle.protocol.specs.declared.jobs.Ending.{Ending}
 use Rattle.protocol.specs.declared.jobs.Ending.the-variants.{Committed}
 use Rattle.protocol.specs.declared.jobs.Ending.the-variants.{Aborted}
-use Rattle.protocol.proofs.Places.{size-join, size-mono}
+use Rattle.protocol.proofs.PlaceLaws.{size-join, size-mono}
 use Rattle.protocol.proofs.Sets.{none-in, join-left, join-right, join-cases, single-is, less, less-in, has-less}
 use Rattle.protocol.proofs.Counts.{meet, meet-in, in-meet, apart-disjoint, size-less, size-zero}
 use Rattle.protocol.proofs.Lists.{in-keep, keep-in, over-keep, over-append, over-push, append-left, append-right, append-cases, in-map, map-in, over-map, each-in, pairs-keep, pairs-in}
@@ -60,7 +61,7 @@ pub record Relies (m : Model) (relied gone : ℕ → ℕ) : Type 0 where
   pub running : (p : ℕ) → Runs m p → (k : ℕ) → has (relied p) k ≡ true → Runs m k × (k ≡ p → ⊥)
   pub e-relied : (e : Execution) → In e (m .executions) → (k : ℕ) → Sum (e .assumption) k → has (relied (e .job)) k ≡ true
   pub v-relied : (v : Version) → In v (m .versions) → (k : ℕ) → Sum (v .assumption) k → (k ≡ v .maker) ⊎ (has (relied (v .maker)) k ≡ true)
-  pub counted : (e : Execution) → In e (m .executions) → e .tally ≤ gone (e .job) + size (e .assumption .aborts)
+  pub counted : (e : Execution) → In e (m .executions) → e .tally ≤ gone (e .job) + size (aborts-of (e .assumption))
   pub complete : (p : ℕ) → Runs m p → (ab : ℕ) → ((k : ℕ) → has (relied p) k ≡ true → has ab k ≡ false → Able (m .executions) k ab)
       → gone p + size (meet (relied p) ab) ≤ m .robustness → Able (m .executions) p ab
 
@@ -71,7 +72,6 @@ single-list (x ∷ []) e i p = refl
 single-list (x ∷ y ∷ xs) e i p = absurd (p .0 .0)
 
 pub one-execution : (m : Model) (relied gone : ℕ → ℕ) → Assumes m → Relies m relied gone → (p : ℕ) → Runs m p → ((k : ℕ) → has (relied p) k ≡ true → ⊥) → gone p ≤ m .robustness → length (executions-of p m) ≡ 1
-unfolding executions-of
 one-execution m relied gone x y p runs none few =
     let a = y .complete p runs 0 (λ k i e. absurd (none k i)) (omega (arith, few, no-count)) in
     single-list (executions-of p m) (a .0) (keep-in (names p) (m .executions) (a .0) (a .1) (eq-eqb _ _ (a .2)))
@@ -110,7 +110,7 @@ relies-begin r m p k a relied gone b sh y = record {
       (λ k. elim [ inl c ↦ none-in k c | inr c ↦ none-in k c ]);
   v-relied = λ v i k s. let h = sh .made-by v i in
       elim (y .v-relied v i k s) [ inl e ↦ inl e | inr e ↦ inr (subst (λ x. has x k ≡ true) (sym (there relied (v .maker) (not-p _ (subst (Runs m) (h .2) (sh .held-by (h .0) (h .1) .0))))) e) ];
-  counted = over-push (λ e. e .tally ≤ reset p gone (e .job) + size (e .assumption .aborts)) (m .executions) _
+  counted = over-push (λ e. e .tally ≤ reset p gone (e .job) + size (aborts-of (e .assumption))) (m .executions) _
       (λ e i. omega (arith, y .counted e i, there gone (e .job) (not-p _ (sh .worked-by e i .0)))) (omega arith);
   complete = λ q h ab f l. elim (cases-eq q p) [
     | inl e ↦ (begun, append-right (m .executions) _ _ (inl refl), sym e, record { onC = λ k c. none-in k c; onA = λ k c. none-in k c })
@@ -128,7 +128,7 @@ relies-begin r m p k a relied gone b sh y = record {
 }
   where
     begun : Execution
-    begun = record { job = p; assumption = record { commits = 0; aborts = 0 }; work = r .start k a; tally = 0; met = replicate 8 0 }
+    begun = record { job = p; assumption = assume 0 0; work = r .start k a; tally = 0; met = replicate 8 0 }
 
     inside : p < length (m .jobs)
     inside = omega (arith, sh .places, b .small)
@@ -146,7 +146,7 @@ relies-begin r m p k a relied gone b sh y = record {
     old-run q n h = sym (ap is-some (getD-set-other (m .jobs) p q (Some (record { kind = k; argument = a })) None n)) ∙ h
 
 pub relies-image : (r : Rule) (m : Model) (p o : ℕ) (relied gone : ℕ → ℕ) → Relies m relied gone → Relies (next r m (Image p o)) relied gone
-unfolding next executions-of
+unfolding next
 relies-image r m p o relied gone y = record {
   running = y .running;
   e-relied = y .e-relied;

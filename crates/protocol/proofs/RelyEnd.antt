@@ -10,6 +10,7 @@ use lib.ListN.{length, getD, set}
 use Rattle.std.specs.declared.option.Option.{Option}
 use Rattle.std.specs.declared.option.Option.the-variants.{Some, None}
 use Rattle.std.proofs.shelf.Tests.{both-ways, false≢true, true≢false, cases-eq, cases-bool, eqb-true, eqb-false, eq-eqb, ne-eqb, and-parts, and-from, not-true}
+use Rattle.protocol.specs.Assumptions.{aborts-of}
 use Rattle.protocol.specs.declared.assumptions.Assumption.{Assumption}
 use Rattle.protocol.specs.declared.assumptions.Execution.{Execution}
 use Rattle.protocol.specs.declared.assumptions.Version.{Version}
@@ -23,7 +24,7 @@ use Rattle.terms.specs.Rule.{Rule}
 use Rattle.protocol.specs.declared.jobs.Ending.{Ending}
 use Rattle.protocol.specs.declared.jobs.Ending.the-variants.{Committed}
 use Rattle.protocol.specs.declared.jobs.Ending.the-variants.{Aborted}
-use Rattle.protocol.proofs.Places.{size-mono, has-join, has-without, has-single}
+use Rattle.protocol.proofs.PlaceLaws.{size-mono, has-join, has-without, has-single}
 use Rattle.protocol.proofs.Sets.{less, less-in}
 use Rattle.protocol.proofs.Counts.{meet, meet-in, in-meet, size-less}
 use Rattle.protocol.proofs.Lists.{in-keep, keep-in, over-keep, map-in, over-map}
@@ -118,14 +119,14 @@ module _ (w : Ending) (k : ℕ) (values′ : List ℕ) (m : Model) (relied gone 
             both-ways _ e (and-from _ _ (subst (λ x. has (relied q) x ≡ true) z (i .0)) (sym (ended-own w k ab) ∙ subst (λ x. has (ended w k ab) x ≡ true) z (i .1))))),
       )
 
-  left-count : (e : Execution) → In e (m .executions) → survives w k (e .assumption) ≡ true → e .tally ≤ gone′ (e .job) + size (without (e .assumption .aborts) (single k))
-  left-count e i t = go (has (e .assumption .aborts) k) refl
+  left-count : (e : Execution) → In e (m .executions) → survives w k (e .assumption) ≡ true → e .tally ≤ gone′ (e .job) + size (without (aborts-of (e .assumption)) (single k))
+  left-count e i t = go (has (aborts-of (e .assumption)) k) refl
     where
-      go : (b : Bool) → has (e .assumption .aborts) k ≡ b → e .tally ≤ gone′ (e .job) + size (without (e .assumption .aborts) (single k))
+      go : (b : Bool) → has (aborts-of (e .assumption)) k ≡ b → e .tally ≤ gone′ (e .job) + size (without (aborts-of (e .assumption)) (single k))
       go true h =
           let one : _≡_ {A = ℕ} (cond (has (relied (e .job)) k && is-aborted w) 1 0) 1 = ap (λ b. cond {A = ℕ} b 1 0) (and-from _ _ (y .e-relied e i k (inr h)) (survivor-not (e .assumption) t .1 h)) in
-          omega (arith, y .counted e i, size-less (e .assumption .aborts) (without (e .assumption .aborts) (single k)) k (λ q c n. less-in _ k q c n))
-      go false h = omega (arith, y .counted e i, size-mono (e .assumption .aborts) (without (e .assumption .aborts) (single k)) (λ q c. less-in _ k q c (λ z. both-ways _ h (subst (Abo (e .assumption)) z c))))
+          omega (arith, y .counted e i, size-less (aborts-of (e .assumption)) (without (aborts-of (e .assumption)) (single k)) k (λ q c n. less-in _ k q c n))
+      go false h = omega (arith, y .counted e i, size-mono (aborts-of (e .assumption)) (without (aborts-of (e .assumption)) (single k)) (λ q c. less-in _ k q c (λ z. both-ways _ h (subst (Abo (e .assumption)) z c))))
 
   pub relies-settle : Relies (settle w k values′ m) relied′ gone′
   unfolding settle
@@ -140,7 +141,7 @@ module _ (w : Ending) (k : ℕ) (values′ : List ℕ) (m : Model) (relied gone 
     v-relied = over-map (λ v. (j : ℕ) → Sum (v .assumption) j → (j ≡ v .maker) ⊎ (has (relied′ (v .maker)) j ≡ true)) (settled-version k) _ (over-keep _ _ (m .versions) (λ v i t j c.
         let l : Sum (v .assumption) j × (j ≡ k → ⊥) = elim c [ inl d ↦ (inl (less _ k j d .0), less _ k j d .1) | inr d ↦ (inr (less _ k j d .0), less _ k j d .1) ] in
         elim (y .v-relied v i j (l .0)) [ inl e ↦ inl e | inr e ↦ inr (less-in _ k j e (l .1)) ]));
-    counted = over-map (λ e. e .tally ≤ gone′ (e .job) + size (e .assumption .aborts)) (settled-execution k) _ (over-keep _ _ (m .executions) (λ e i t. left-count e i (and-parts _ _ t .1)));
+    counted = over-map (λ e. e .tally ≤ gone′ (e .job) + size (aborts-of (e .assumption))) (settled-execution k) _ (over-keep _ _ (m .executions) (λ e i t. left-count e i (and-parts _ _ t .1)));
     complete = λ q h ab able few.
         let o = ended-runs (m .jobs) k q inside h in
         let a = y .complete q (o .0) (ended w k ab) (λ j i u. elim (cases-eq j k) [

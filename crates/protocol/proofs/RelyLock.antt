@@ -9,6 +9,7 @@ use lib.Dec.{eqb, leb}
 use lib.ListN.{length}
 use Rattle.std.proofs.shelf.Tests.{both-ways, false≢true, true≢false, cases-eq, cases-bool, eqb-true, eqb-false, eq-eqb, ne-eqb, and-parts, and-from, not-true, le-leb, cond-true, cond-false}
 use Rattle.terms.specs.declared.modes.Mode.{Mode}
+use Rattle.protocol.specs.Assumptions.{commits-of, aborts-of}
 use Rattle.protocol.specs.declared.holdings.Holding.{Holding}
 use Rattle.protocol.specs.declared.assumptions.Assumption.{Assumption}
 use Rattle.protocol.specs.declared.assumptions.Execution.{Execution}
@@ -25,7 +26,7 @@ use Rattle.protocol.specs.PlainRun.{Plain}
 use Rattle.protocol.specs.Step.{next}
 use Rattle.terms.specs.Rule.{Rule}
 use Rattle.protocol.specs.declared.assumptions.Offer.{Offer}
-use Rattle.protocol.proofs.Places.{size-join, size-mono}
+use Rattle.protocol.proofs.PlaceLaws.{size-join, size-mono}
 use Rattle.protocol.proofs.Sets.{none-in, join-left, join-right, join-cases, less, less-in}
 use Rattle.protocol.proofs.Counts.{meet, meet-in, in-meet, apart-disjoint}
 use Rattle.protocol.proofs.Lists.{in-keep, keep-in, over-keep, over-append, append-left, append-right, append-cases, map-in, each-in, behind-in}
@@ -123,7 +124,7 @@ module _ (r : Rule) (m : Model) (s : Plain) (p o : ℕ) (mode : Mode) (relied go
   maker-of v i e = let w = sh .made-by v i in record { holding = w .0; there = w .1; job = w .2; object = w .3 ∙ e; turned = w .4 }
 
   -- what an offer assumes
-  offer-relied : (z : Offer) → In z (offers m o) → (k : ℕ) → (k ≡ p → ⊥) → (has (z .commits) k ≡ true) ⊎ (has (z .aborts) k ≡ true) → has (grown p) k ≡ true
+  offer-relied : (z : Offer) → In z (offers m o) → (k : ℕ) → (k ≡ p → ⊥) → (has (commits-of (z .assumption)) k ≡ true) ⊎ (has (aborts-of (z .assumption)) k ≡ true) → has (grown p) k ≡ true
   offer-relied = over-offers _ m o
       (λ k n. elim [ inl e ↦ none-in k e | inr e ↦ from-maker k e ])
       (λ v i d k n.
@@ -141,13 +142,13 @@ module _ (r : Rule) (m : Model) (s : Plain) (p o : ℕ) (mode : Mode) (relied go
       (a .0) (a .1) (a .2) (a .3)
 
   in-paired : (e : Execution) → In e (m .executions) → e .job ≡ p → (z : Offer) → In z (offers m o) → is-kept (m .robustness) (pairing r m p o mode e z) ≡ true → In (pairing r m p o mode e z) (kept-pairs r m p o mode)
-  unfolding kept-pairs executions-of
+  unfolding kept-pairs
   in-paired e i j z l t =
       each-in (λ e. keep (is-kept (m .robustness)) (map (pairing r m p o mode e) (offers m o))) (executions-of p m) e (keep-in (names p) (m .executions) e i (eq-eqb _ _ j)) (pairing r m p o mode e z)
       (keep-in (is-kept (m .robustness)) (map (pairing r m p o mode e) (offers m o)) (pairing r m p o mode e z) (map-in (pairing r m p o mode e) (offers m o) z l) t)
 
   -- an offer that goes with ab, where each maker that commits in it is able
-  good-offer : (ab : ℕ) → ((q : ℕ) → has mk q ≡ true → has ab q ≡ false → Able (m .executions) q ab) → (z : Offer) × In z (offers m o) × Goes (record { commits = z .commits; aborts = z .aborts }) ab
+  good-offer : (ab : ℕ) → ((q : ℕ) → has mk q ≡ true → has ab q ≡ false → Able (m .executions) q ab) → (z : Offer) × In z (offers m o) × Goes (z .assumption) ab
   unfolding offers
   good-offer ab able = elim (last-maker o ab (m .holdings) (sh .once)) [
     | inl all ↦ (stored-offer m o, inl refl, record { onC = λ k c. none-in k c; onA = all })
@@ -182,16 +183,16 @@ module _ (r : Rule) (m : Model) (s : Plain) (p o : ℕ) (mode : Mode) (relied go
         go (inl c) n = elim (join-cases _ _ k c) [ inl d ↦ by-old k (inl d) | inr d ↦ offer-relied z l k n (inl d) ]
         go (inr c) n = elim (join-cases _ _ k c) [ inl d ↦ by-old k (inr d) | inr d ↦ offer-relied z l k n (inr d) ]
 
-    pair-counted : e′ .tally ≤ gone (e .job) + size (e′ .assumption .aborts)
-    pair-counted = omega (arith, y .counted e i, size-join (e .assumption .aborts) (z .aborts))
+    pair-counted : e′ .tally ≤ gone (e .job) + size (aborts-of (e′ .assumption))
+    pair-counted = omega (arith, y .counted e i, size-join (aborts-of (e .assumption)) (aborts-of (z .assumption)))
 
-    pair-able : (ab : ℕ) → Goes (e .assumption) ab → Goes (record { commits = z .commits; aborts = z .aborts }) ab → gone p + size (meet (grown p) ab) ≤ m .robustness → (is-kept (m .robustness) e′ ≡ true) × Goes (e′ .assumption) ab
+    pair-able : (ab : ℕ) → Goes (e .assumption) ab → Goes (z .assumption) ab → gone p + size (meet (grown p) ab) ≤ m .robustness → (is-kept (m .robustness) e′ ≡ true) × Goes (e′ .assumption) ab
     pair-able ab g h few =
         let goes : Goes (e′ .assumption) ab = record {
           onC = λ k c. elim (join-cases _ _ k c) [ inl d ↦ g .onC k d | inr d ↦ h .onC k d ];
           onA = λ k c. elim (join-cases _ _ k c) [ inl d ↦ g .onA k d | inr d ↦ h .onA k d ];
         } in
-        let most : size (e′ .assumption .aborts) ≤ size (meet (grown p) ab) = size-mono _ _ (λ k c. meet-in (grown p) ab k (pair-relied k (inr c)) (goes .onA k c)) in
+        let most : size (aborts-of (e′ .assumption)) ≤ size (meet (grown p) ab) = size-mono _ _ (λ k c. meet-in (grown p) ab k (pair-relied k (inr c)) (goes .onA k c)) in
         (and-from _ _ (apart-disjoint _ _ (λ k c d. both-ways _ (goes .onC k c) (goes .onA k d))) (le-leb _ _ (omega (arith, pair-counted, ap gone j))), goes)
 
   complete-own : (ab : ℕ) → ((k : ℕ) → has (grown p) k ≡ true → has ab k ≡ false → Able (next r m (Lock p o mode) .executions) k ab) → gone p + size (meet (grown p) ab) ≤ m .robustness
@@ -223,7 +224,7 @@ module _ (r : Rule) (m : Model) (s : Plain) (p o : ℕ) (mode : Mode) (relied go
         (over-paired _ r m p o mode (λ e i j z l t k c. subst (λ q. has (grown q) k ≡ true) (sym j) (pair-relied e i j z l k c)));
     v-relied = λ v i k c. let h = sh .made-by v i in
         elim (y .v-relied v i k c) [ inl e ↦ inl e | inr e ↦ inr (from-old (v .maker) k (subst (Runs m) (h .2) (sh .held-by (h .0) (h .1) .0)) e) ];
-    counted = over-append (λ e. e .tally ≤ gone (e .job) + size (e .assumption .aborts)) (keep (λ e. not (names p e)) (m .executions)) (kept-pairs r m p o mode)
+    counted = over-append (λ e. e .tally ≤ gone (e .job) + size (aborts-of (e .assumption))) (keep (λ e. not (names p e)) (m .executions)) (kept-pairs r m p o mode)
         (over-keep _ _ (m .executions) (λ e i t. y .counted e i))
         (over-paired _ r m p o mode (λ e i j z l t. pair-counted e i j z l));
     complete = λ q h ab able few. elim (cases-eq q p) [

@@ -99,7 +99,7 @@ shape-begin r m p k a b s = record {
 pub over-paired : (P : Execution → Type 0) (r : Rule) (m : Model) (p o : ℕ) (mode : Mode)
     → ((e : Execution) → In e (m .executions) → e .job ≡ p → (x : Offer) → In x (offers m o) → is-kept (m .robustness) (pairing r m p o mode e x) ≡ true → P (pairing r m p o mode e x))
     → (e : Execution) → In e (kept-pairs r m p o mode) → P e
-unfolding kept-pairs executions-of
+unfolding kept-pairs
 over-paired P r m p o mode f =
     over-each P _ (executions-of p m) (λ e i.
     let own-e = in-keep (names p) (m .executions) e i in
@@ -113,7 +113,7 @@ over-offers P m o f g x (inl e) = subst P e f
 over-offers P m o f g x (inr i) = over-map P (offer (m .holdings) o) _ (over-keep _ _ (m .versions) (λ v j t. g v j (eqb-true _ _ t))) x i
 
 pub shape-lock : (r : Rule) (m : Model) (p o : ℕ) (mode : Mode) → Locks m p o mode → Shape m → Shape (next r m (Lock p o mode))
-unfolding next kept-pairs executions-of
+unfolding next kept-pairs
 shape-lock r m p o mode b s = record {
   places = s .places;
   held-by = over-push _ (m .holdings) _ (s .held-by) (b .runs, b .object);
@@ -148,7 +148,7 @@ open-turns true Turned e o = absurd (false≢true o)
 open-turns false s e o = absurd (false≢true e)
 
 pub shape-image : (r : Rule) (m : Model) (p o : ℕ) → Images m p o → Shape m → Shape (next r m (Image p o))
-unfolding next executions-of
+unfolding next
 shape-image r m p o b s = record {
   places = s .places;
   held-by = over-map _ (turn p o) (m .holdings) (s .held-by);

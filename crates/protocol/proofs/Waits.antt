@@ -13,18 +13,9 @@ use Rattle.protocol.specs.declared.holdings.Holding.{Holding}
 use Rattle.protocol.specs.Holdings.{clash, holds, opened, reading, turn, turn-state, jobs-of, waits, new-waits}
 use Rattle.protocol.specs.Lists.{keep, any, In, Behind}
 use Rattle.protocol.specs.Places.{has, single, join, without}
+use Rattle.protocol.specs.Waiting.{Waits-for}
 use Rattle.protocol.proofs.Sets.{none-in, join-left, join-right, join-cases, single-is, single-in, cond-in, in-cond}
 use Rattle.protocol.proofs.Lists.{any-in, in-any, behind-append, behind-last, push-cases, in-keep-behind, keep-behind, in-map-behind, map-behind}
-
--- job p waits for job q, by the holdings g and h
-pub record Wait (hs : List Holding) (p q : ℕ) : Type 0 where
-  pub earlier : Holding
-  pub later : Holding
-  pub order : Behind earlier later hs
-  pub of : earlier .job ≡ q
-  pub by : later .job ≡ p
-  pub other : q ≡ p → ⊥
-  pub why : clash earlier later ≡ true
 
 pub jobs-in : (t : Holding → Bool) (hs : List Holding) (q : ℕ) → has (jobs-of t hs) q ≡ true → (h : Holding) × In h hs × (t h ≡ true) × (h .job ≡ q)
 unfolding jobs-of
@@ -42,13 +33,13 @@ in-jobs t [] h i e = absurd i
 in-jobs t (g ∷ hs) h (inl p) e = join-left _ _ _ (in-cond (t g) _ _ (ap t p ∙ e) (single-in _ _ (ap (λ x. x .job) p)))
 in-jobs t (g ∷ hs) h (inr i) e = join-right _ _ _ (in-jobs t hs h i e)
 
-pub waits-why : (hs : List Holding) (p q : ℕ) → has (waits hs p) q ≡ true → Wait hs p q
+pub waits-why : (hs : List Holding) (p q : ℕ) → has (waits hs p) q ≡ true → Waits-for hs p q
 unfolding waits
 waits-why [] p q e = none-in q e
 waits-why (g ∷ hs) p q e = go (join-cases _ _ q e) (waits-why hs p q)
   where
     go : (has (cond (not (eqb (g .job) p) && any (λ h. eqb (h .job) p && clash g h) hs) (single (g .job)) 0) q ≡ true) ⊎ (has (waits hs p) q ≡ true)
-        → (has (waits hs p) q ≡ true → Wait hs p q) → Wait (g ∷ hs) p q
+        → (has (waits hs p) q ≡ true → Waits-for hs p q) → Waits-for (g ∷ hs) p q
     go (inl i) rec =
         let c = cond-in (not (eqb (g .job) p) && any (λ h. eqb (h .job) p && clash g h) hs) _ q i in
         let d = and-parts _ _ (c .0) in
@@ -68,7 +59,7 @@ waits-why (g ∷ hs) p q e = go (join-cases _ _ q e) (waits-why hs p q)
         let w = rec i in
         record { earlier = w .earlier; later = w .later; order = inr (w .order); of = w .of; by = w .by; other = w .other; why = w .why }
 
-pub why-waits : (hs : List Holding) (p q : ℕ) → Wait hs p q → has (waits hs p) q ≡ true
+pub why-waits : (hs : List Holding) (p q : ℕ) → Waits-for hs p q → has (waits hs p) q ≡ true
 unfolding waits
 why-waits hs p q w = subst (λ x. has (waits hs p) x ≡ true) (w .of) (go hs (w .order))
   where

@@ -6,24 +6,12 @@ use Prim.Native.Nat.{ℕ, _≤_}
 use lib.ListN.{length}
 use Rattle.terms.specs.declared.calls.Call.{Call}
 use Rattle.terms.specs.Rule.{Rule}
-use Rattle.protocol.specs.declared.holdings.Holding.{Holding}
 use Rattle.protocol.specs.History.{History, history-of, relies-on, has-ended, aborts}
-use Rattle.protocol.specs.Holdings.{clash}
-use Rattle.protocol.specs.Lists.{Behind}
 use Rattle.protocol.specs.Model.{Model, new, executions-of}
 use Rattle.protocol.specs.Past.{Event, past}
 use Rattle.protocol.specs.PlainRun.{plain-run}
 use Rattle.protocol.specs.Step.{run}
-
--- job p waits for job q, another: q's holding of an object stands before p's holding of it, and not both are to read
-pub record Waits-for (hs : List Holding) (p q : ℕ) : Type 0 where
-  pub first : Holding
-  pub second : Holding
-  pub order : Behind first second hs
-  pub of-first : first .job ≡ q
-  pub of-second : second .job ≡ p
-  pub others : p ≡ q → ⊥
-  pub clashing : clash first second ≡ true
+use Rattle.protocol.specs.Waiting.{Waits-for}
 
 -- every job on which job i ever relied has ended
 abbrev pub All-ended : History → ℕ → Type 0

@@ -3,6 +3,7 @@ pub mod Places
 pub mod Refusals
 pub mod Assumptions
 pub mod Holdings
+pub mod Waiting
 pub mod Model
 pub mod Pairing
 pub mod Settling

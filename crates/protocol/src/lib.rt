@@ -4,6 +4,7 @@ pub mod holdings;
 pub mod jobs;
 pub mod places;
 pub mod refusals;
+pub mod theorems;
 
 pub use assumptions::Assumption;
 pub use assumptions::Execution;
