@@ -13,6 +13,10 @@ has set k = eqb (set / 2 ^ k % 2) 1
 unfoldable pub single : ℕ → ℕ
 single k = 2 ^ k
 
+-- what of a set is among the places 0 to 15
+unfoldable pub placed : ℕ → ℕ
+placed set = set % 65536
+
 -- what is in one of the two
 unfoldable pub join : ℕ → ℕ → ℕ
 join a b = bitOr a b
