@@ -24,3 +24,6 @@ pub mod RelyLock
 pub mod RelyEnd
 pub mod Tracks
 pub mod Law
+pub mod SetMembers
+pub mod RingExact
+pub mod Always

@@ -17,3 +17,5 @@ pub mod PlainRun
 pub mod History
 pub mod Law
 pub mod Cases
+pub mod SetLaws
+pub mod RingTest

@@ -16,3 +16,8 @@ pub record Waits-for (hs : List Holding) (p q : ℕ) : Type 0 where
   pub by : later .job ≡ p
   pub other : q ≡ p → ⊥
   pub why : clash earlier later ≡ true
+
+-- job p waits for job q, directly or through others
+pub data Waits-through (hs : List Holding) : ℕ → ℕ → Type 0 where
+  directly : {p q : ℕ} → Waits-for hs p q → Waits-through hs p q
+  through : {p k q : ℕ} → Waits-for hs p k → Waits-through hs k q → Waits-through hs p q
