@@ -13,18 +13,13 @@ use Rattle.protocol.specs.declared.holdings.Holding.{Holding}
 use Rattle.protocol.specs.Holdings.{waits, new-waits, reach, turn, clash}
 use Rattle.protocol.specs.Lists.{In, any}
 use Rattle.protocol.specs.Places.{has, single, join}
+use Rattle.protocol.specs.Ranks.{Acyclic}
 use Rattle.protocol.specs.Waiting.{Waits-for}
 use Rattle.protocol.proofs.PlaceLaws.{empty}
 use Rattle.protocol.proofs.Sets.{none-in}
 use Rattle.protocol.proofs.Lists.{behind-in}
 use Rattle.protocol.proofs.Waits.{waits-why, waits-push, waits-more, waits-turn, waits-rest, rest, jobs-in}
 use Rattle.protocol.proofs.Reach.{reach-closed, reach-more}
-
-pub record Acyclic (hs : List Holding) : Type 0 where
-  pub rank : ℕ → ℕ
-  pub bound : ℕ
-  pub below : (k : ℕ) → rank k ≤ bound
-  pub falls : (a k : ℕ) → has (waits hs a) k ≡ true → rank k < rank a
 
 abbrev pub Small : List Holding → Type 0
 Small hs = (h : Holding) → In h hs → h .job < 16

@@ -33,7 +33,7 @@ use Rattle.protocol.proofs.PlaceLaws.{disjoint-apart}
 use Rattle.protocol.proofs.Sets.{none-in, join-left, join-right, join-cases, single-is, single-in, less, less-in}
 use Rattle.protocol.proofs.Lists.{in-keep, over-keep, over-append, over-push, in-map, over-map, all-from, pairs-append, pairs-push, pairs-keep, pairs-map, pairs-each, behind-two}
 use Rattle.protocol.proofs.Waits.{waits-more, turn-waits, rest}
-use Rattle.protocol.proofs.Acyclic.{Acyclic}
+use Rattle.protocol.specs.Ranks.{Acyclic}
 use Rattle.protocol.proofs.Assumed.{Com, Abo, Sum, Chained, chained-none, not-own, Linked, Offered, chained-more, linked-more, chained-pair, offered-stored, offered-version, linked-version, Stops, chained-settled, linked-settled, Conflict, Within, conflict-within, conflict-settled}
 use Rattle.protocol.proofs.Accepted.{Begins, Locks, Images, Commits}
 use Rattle.protocol.proofs.Makers.{Maker, makers-why, why-makers, makers-direct, after-makers, after-either, opened-turned}

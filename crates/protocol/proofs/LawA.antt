@@ -24,7 +24,8 @@ use Rattle.terms.specs.Rule.{Rule}
 use Rattle.protocol.specs.declared.jobs.Ending.the-variants.{Committed}
 use Rattle.protocol.specs.declared.jobs.Ending.the-variants.{Aborted}
 use Rattle.protocol.proofs.Waits.{waits-turn, waits-rest, rest}
-use Rattle.protocol.proofs.Acyclic.{Acyclic, Small, acyclic-none, acyclic-fewer, acyclic-push, free}
+use Rattle.protocol.specs.Ranks.{Acyclic}
+use Rattle.protocol.proofs.Acyclic.{Small, acyclic-none, acyclic-fewer, acyclic-push, free}
 use Rattle.protocol.proofs.Accepted.{begins-ok, locks-ok, images-ok, commits-ok, aborts-ok}
 use Rattle.protocol.proofs.Shape.{Shape, runs-small, shape-new, shape-begin, shape-lock, shape-image, shape-settle, length-written}
 use Rattle.protocol.proofs.Assumes.{Assumes, assumes-new, assumes-begin, assumes-lock, assumes-image, assumes-settle}

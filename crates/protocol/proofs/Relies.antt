@@ -41,7 +41,7 @@ use Rattle.protocol.proofs.Counts.{meet, meet-in, in-meet, apart-disjoint, siz
 use Rattle.protocol.proofs.Lists.{in-keep, keep-in, over-keep, over-append, over-push, append-left, append-right, append-cases, in-map, map-in, over-map, each-in, pairs-keep, pairs-in}
 use Rattle.protocol.proofs.Reach.{spread-more, spread-next, spread-why}
 use Rattle.protocol.proofs.Assumed.{Com, Abo, Sum, Chained, not-own}
-use Rattle.protocol.proofs.Acyclic.{Acyclic}
+use Rattle.protocol.specs.Ranks.{Acyclic}
 use Rattle.protocol.proofs.Accepted.{Begins, Locks, Images, Commits}
 use Rattle.protocol.proofs.Makers.{Maker, makers-why, why-makers, after-makers}
 use Rattle.protocol.proofs.Shape.{Shape, runs-small, runs-begun, runs-ended, ended-runs, over-paired, over-offers}

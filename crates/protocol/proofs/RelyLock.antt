@@ -32,7 +32,7 @@ use Rattle.protocol.proofs.Counts.{meet, meet-in, in-meet, apart-disjoint}
 use Rattle.protocol.proofs.Lists.{in-keep, keep-in, over-keep, over-append, append-left, append-right, append-cases, map-in, each-in, behind-in}
 use Rattle.protocol.proofs.Reach.{spread-more, spread-next, spread-why}
 use Rattle.protocol.proofs.Assumed.{Com, Abo, Sum, Chained, not-own}
-use Rattle.protocol.proofs.Acyclic.{Acyclic}
+use Rattle.protocol.specs.Ranks.{Acyclic}
 use Rattle.protocol.proofs.Accepted.{Locks}
 use Rattle.protocol.proofs.Makers.{Maker, makers-why, why-makers, after-makers, after-why, why-after}
 use Rattle.protocol.proofs.Shape.{Shape, runs-small, over-paired, over-offers}

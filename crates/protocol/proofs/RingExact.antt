@@ -14,7 +14,8 @@ use Rattle.protocol.specs.Places.{has}
 use Rattle.protocol.specs.RingTest.{Ring-test, No-ring, Of-places}
 use Rattle.protocol.specs.Step.{run}
 use Rattle.protocol.specs.Waiting.{Waits-for, Waits-through, directly, through}
-use Rattle.protocol.proofs.Acyclic.{Acyclic, waited-small}
+use Rattle.protocol.specs.Ranks.{Acyclic}
+use Rattle.protocol.proofs.Acyclic.{waited-small}
 use Rattle.protocol.proofs.Always.{sound}
 use Rattle.protocol.proofs.LawA.{small}
 use Rattle.protocol.proofs.Reach.{spread-why, reach-closed, reach-more}

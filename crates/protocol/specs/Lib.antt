@@ -4,6 +4,7 @@ pub mod Refusals
 pub mod Assumptions
 pub mod Holdings
 pub mod Waiting
+pub mod Ranks
 pub mod Model
 pub mod Pairing
 pub mod Settling
