@@ -1,24 +1,23 @@
 -- What is known where a call is accepted.
-use mathlib.Core.Path.{_≡_, refl, sym, ap, _∙_, subst}
-use mathlib.Core.Bool.{Bool, true, false, not, cond, _&&_, _||_}
-use mathlib.Core.Logic.{_⊎_, inl, inr}
-use mathlib.Core.List.{List, [], _∷_, _++_, map}
-use Prim.Native.Nat.{ℕ, _+_, _≤_, _<_}
+use mathlib.Core.Path.{_≡_, refl}
+use mathlib.Core.Bool.{Bool, true, false, _&&_}
+use mathlib.Core.Logic.{inl}
+use mathlib.Core.List.{List, [], _∷_}
+use Prim.Native.Nat.{ℕ, _<_}
 use native.Mathlib.Omega.{arith}
-use lib.Dec.{eqb, ltb, leb}
+use lib.Dec.{eqb, ltb}
 use lib.ListN.{length}
 use Rattle.std.specs.declared.option.Option.{Option}
 use Rattle.std.specs.declared.option.Option.the-variants.{Some, None}
-use Rattle.std.proofs.shelf.Tests.{both-ways, cases-bool, ltb-false, leb-false, not-false, and-from, eqb-true, eqb-false, eq-eqb, and-parts}
+use Rattle.std.proofs.shelf.Tests.{both-ways, ltb-false, leb-false, not-false, and-from, eqb-true, eq-eqb, and-parts}
 use Rattle.terms.specs.declared.modes.Mode.{Mode}
 use Rattle.protocol.specs.declared.holdings.Holding.{Holding}
-use Rattle.terms.specs.declared.calls.Call.{Call}
 use Rattle.terms.specs.declared.calls.Call.the-variants.{Begin, Lock, Image, Commit, Abort}
 use Rattle.protocol.specs.declared.assumptions.Execution.{Execution}
 use Rattle.protocol.proofs.Runs.{Runs}
 use Rattle.protocol.specs.Holdings.{holds, held-by, opened, begins, waits, new-waits, reach}
-use Rattle.protocol.specs.Lists.{keep, any, is-nil, is-some, first, In, All}
-use Rattle.protocol.specs.Model.{Model, job-at, executions-of, holding-count, names}
+use Rattle.protocol.specs.Lists.{is-nil, first, In, All}
+use Rattle.protocol.specs.Model.{Model, executions-of, holding-count, names}
 use Rattle.protocol.specs.Places.{has}
 use Rattle.protocol.specs.Step.{answer, refusals}
 use Rattle.terms.specs.Rule.{Rule}

@@ -1,24 +1,22 @@
 -- No ring of waits: each job has a rank, and waits only for jobs of a lower one.
 use mathlib.Core.Path.{_≡_, refl, sym, ap, _∙_, subst}
-use mathlib.Core.Bool.{Bool, true, false, not, cond}
+use mathlib.Core.Bool.{Bool, true, false, cond}
 use mathlib.Core.Logic.{_⊎_, inl, inr}
-use mathlib.Core.List.{List, [], _∷_, _++_, map}
+use mathlib.Core.List.{List, [], _∷_, _++_}
 use Prim.Native.Nat.{ℕ, zero, suc, _+_, _^_, _≤_, _<_}
 use native.Mathlib.Omega.{arith}
 use lib.Bits.{or-lt}
 use lib.Pow.{pow-pos, pow-lt}
-use lib.Dec.{eqb}
-use Rattle.std.proofs.shelf.Tests.{both-ways, cases-bool, cases-lt, eqb-false, not-true}
+use Rattle.std.proofs.shelf.Tests.{both-ways, cases-bool, cases-lt}
 use Rattle.protocol.specs.declared.holdings.Holding.{Holding}
-use Rattle.protocol.specs.Holdings.{waits, new-waits, reach, turn, clash}
-use Rattle.protocol.specs.Lists.{In, any}
+use Rattle.protocol.specs.Holdings.{waits, new-waits, reach}
+use Rattle.protocol.specs.Lists.{In}
 use Rattle.protocol.specs.Places.{has, single, join}
 use Rattle.protocol.specs.Ranks.{Acyclic}
-use Rattle.protocol.specs.Waiting.{Waits-for}
 use Rattle.protocol.proofs.PlaceLaws.{empty}
 use Rattle.protocol.proofs.Sets.{none-in}
 use Rattle.protocol.proofs.Lists.{behind-in}
-use Rattle.protocol.proofs.Waits.{waits-why, waits-push, waits-more, waits-turn, waits-rest, rest, jobs-in}
+use Rattle.protocol.proofs.Waits.{waits-why, waits-push}
 use Rattle.protocol.proofs.Reach.{reach-closed, reach-more}
 
 abbrev pub Small : List Holding → Type 0

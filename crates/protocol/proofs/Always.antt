@@ -9,7 +9,7 @@ use Rattle.terms.specs.Rule.{Rule}
 use Rattle.protocol.specs.declared.refusals.Refusal.{Refusal}
 use Rattle.protocol.specs.History.{History, history-one, history, blank}
 use Rattle.protocol.specs.Model.{Model, new}
-use Rattle.protocol.specs.Past.{Event, past}
+use Rattle.protocol.specs.Past.{past}
 use Rattle.protocol.specs.PlainRun.{Plain, plain-one}
 use Rattle.protocol.specs.Step.{answer, next, step, run}
 use Rattle.protocol.proofs.LawA.{Inv, inv-new, inv-next}

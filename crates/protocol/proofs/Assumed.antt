@@ -1,17 +1,17 @@
 -- Chains of waits behind an assumption, and assumptions that conflict.
 use mathlib.Core.Path.{_≡_, refl, sym, ap, _∙_, subst}
-use mathlib.Core.Bool.{Bool, true, false, not, cond, _&&_, _||_}
+use mathlib.Core.Bool.{Bool, true, false, not, _||_}
 use mathlib.Core.Logic.{_⊎_, inl, inr}
-use mathlib.Core.List.{List, [], _∷_, _++_, map}
+use mathlib.Core.List.{List, [], _∷_, _++_}
 use Prim.Native.Nat.{ℕ, _<_}
 use native.Mathlib.Omega.{arith}
 use lib.Dec.{eqb, ltb}
-use Rattle.std.proofs.shelf.Tests.{both-ways, eqb-true, eqb-false, eq-eqb, ne-eqb, or-cases, or-left, or-right, not-true, cases-eq, cases-bool, ltb-true, lt-ltb}
+use Rattle.std.proofs.shelf.Tests.{both-ways, eqb-true, eq-eqb, or-cases, or-left, or-right, not-true, cases-eq, cases-bool, ltb-true, lt-ltb}
 use Rattle.protocol.specs.Assumptions.{commits-of, aborts-of, assume}
 use Rattle.protocol.specs.declared.holdings.Holding.{Holding}
 use Rattle.protocol.specs.declared.assumptions.Assumption.{Assumption}
 use Rattle.protocol.specs.Holdings.{waits, new-waits}
-use Rattle.protocol.specs.Places.{has, single, join, without}
+use Rattle.protocol.specs.Places.{has, single, join}
 use Rattle.protocol.specs.Settling.{denied, survives, settled}
 use Rattle.protocol.specs.declared.jobs.Ending.{Ending}
 use Rattle.protocol.specs.declared.jobs.Ending.the-variants.{Committed}

@@ -1,27 +1,24 @@
 -- Each assumption is is-kept, has a chain of waits behind it, and conflicts with the others of its job: kept by every call.
 use mathlib.Core.Path.{_≡_, refl, sym, ap, _∙_, subst}
-use mathlib.Core.Bool.{Bool, true, false, not, cond, _&&_, _||_}
-use mathlib.Core.Logic.{_⊎_, inl, inr}
+use mathlib.Core.Bool.{true, not}
+use mathlib.Core.Logic.{inl, inr}
 use mathlib.Core.List.{List, [], _∷_, _++_, map}
-use Prim.Native.Nat.{ℕ, _<_}
-use native.Mathlib.Omega.{arith}
-use lib.Dec.{eqb, ltb}
-use lib.ListN.{length}
-use Rattle.std.proofs.shelf.Tests.{both-ways, cases-eq, eqb-true, eqb-false, eq-eqb, ne-eqb, and-parts, and-from, not-true, ltb-true, lt-ltb}
+use Prim.Native.Nat.{ℕ}
+use lib.Dec.{eqb}
+use Rattle.std.proofs.shelf.Tests.{both-ways, cases-eq, eqb-true, eqb-false, and-parts, not-true}
 use Rattle.terms.specs.declared.modes.Mode.{Mode}
 use Rattle.protocol.specs.declared.holdings.Holding.{Holding}
 use Rattle.protocol.specs.declared.assumptions.Assumption.{Assumption}
 use Rattle.protocol.specs.declared.assumptions.Execution.{Execution}
 use Rattle.protocol.specs.declared.assumptions.Version.{Version}
-use Rattle.terms.specs.declared.calls.Call.{Call}
-use Rattle.terms.specs.declared.calls.Call.the-variants.{Begin, Lock, Image, Commit, Abort}
+use Rattle.terms.specs.declared.calls.Call.the-variants.{Begin, Lock, Image}
 use Rattle.protocol.proofs.Runs.{Runs}
 use Rattle.protocol.specs.Holdings.{begins, opened, waits, new-waits, makers, later-makers, turn, position}
 use Rattle.protocol.specs.Image.{version-by}
-use Rattle.protocol.specs.Lists.{keep, each, In, All, Pairs, Behind}
+use Rattle.protocol.specs.Lists.{keep, In, Pairs}
 use Rattle.protocol.specs.Model.{Model, new, executions-of, names, job-at}
 use Rattle.protocol.specs.Pairing.{offer, stored-offer, offers, is-kept, pairing, kept-pairs}
-use Rattle.protocol.specs.Places.{has, single, join, without}
+use Rattle.protocol.specs.Places.{has}
 use Rattle.protocol.specs.Settling.{survives, settled, settled-execution, settled-version, settle}
 use Rattle.protocol.specs.Step.{next}
 use Rattle.terms.specs.Rule.{Rule}
@@ -31,11 +28,11 @@ use Rattle.protocol.specs.declared.jobs.Ending.the-variants.{Committed}
 use Rattle.protocol.specs.declared.jobs.Ending.the-variants.{Aborted}
 use Rattle.protocol.proofs.PlaceLaws.{disjoint-apart}
 use Rattle.protocol.proofs.Sets.{none-in, join-left, join-right, join-cases, single-is, single-in, less, less-in}
-use Rattle.protocol.proofs.Lists.{in-keep, over-keep, over-append, over-push, in-map, over-map, all-from, pairs-append, pairs-push, pairs-keep, pairs-map, pairs-each, behind-two}
+use Rattle.protocol.proofs.Lists.{in-keep, over-keep, over-append, over-push, over-map, all-from, pairs-append, pairs-push, pairs-keep, pairs-map, pairs-each, behind-two}
 use Rattle.protocol.proofs.Waits.{waits-more, turn-waits, rest}
 use Rattle.protocol.specs.Ranks.{Acyclic}
-use Rattle.protocol.proofs.Assumed.{Com, Abo, Sum, Chained, chained-none, not-own, Linked, Offered, chained-more, linked-more, chained-pair, offered-stored, offered-version, linked-version, Stops, chained-settled, linked-settled, Conflict, Within, conflict-within, conflict-settled}
-use Rattle.protocol.proofs.Accepted.{Begins, Locks, Images, Commits}
+use Rattle.protocol.proofs.Assumed.{Com, Abo, Chained, chained-none, not-own, Linked, Offered, chained-more, linked-more, chained-pair, offered-stored, offered-version, linked-version, Stops, chained-settled, linked-settled, Conflict, Within, conflict-within, conflict-settled}
+use Rattle.protocol.proofs.Accepted.{Begins, Locks, Images}
 use Rattle.protocol.proofs.Makers.{Maker, makers-why, why-makers, makers-direct, after-makers, after-either, opened-turned}
 use Rattle.protocol.proofs.Shape.{Shape, over-paired, over-offers}
 

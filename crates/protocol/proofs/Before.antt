@@ -1,21 +1,20 @@
 -- A job that turned an object before another locked it.
 use mathlib.Core.Path.{_≡_, refl, sym, ap, _∙_, subst}
-use mathlib.Core.Bool.{Bool, true, false, not, cond, _&&_, _||_}
+use mathlib.Core.Bool.{Bool, true, false, not, _&&_}
 use mathlib.Core.Logic.{_⊎_, inl, inr}
 use mathlib.Core.List.{List, [], _∷_, _++_, map}
-use Prim.Native.Nat.{ℕ, _<_}
+use Prim.Native.Nat.{ℕ}
 use lib.Dec.{eqb}
-use Rattle.std.proofs.shelf.Tests.{both-ways, false≢true, cases-bool, eqb-true, eqb-false, eq-eqb, ne-eqb, and-parts, and-from, not-true}
+use Rattle.std.proofs.shelf.Tests.{false≢true, eqb-false, eq-eqb, ne-eqb, and-from, not-true}
 use Rattle.protocol.specs.declared.holdings.HoldingState.{HoldingState}
 use Rattle.protocol.specs.declared.holdings.HoldingState.the-variants.{Reading, Open, Turned}
 use Rattle.protocol.specs.declared.holdings.Holding.{Holding}
-use Rattle.protocol.specs.Holdings.{holds, turned, opened, reading, turn, turn-state, waits, later-makers, makers}
-use Rattle.protocol.specs.Lists.{keep, In, Behind}
+use Rattle.protocol.specs.Holdings.{holds, turned, opened, reading, turn, turn-state, waits, later-makers}
+use Rattle.protocol.specs.Lists.{In, Behind}
 use Rattle.protocol.specs.Places.{has}
-use Rattle.protocol.specs.Waiting.{Waits-for}
 use Rattle.protocol.proofs.Lists.{behind-in, behind-two, behind-append, behind-last, push-cases, in-keep-behind, keep-behind, in-map-behind, map-behind}
 use Rattle.protocol.proofs.Waits.{why-waits, rest}
-use Rattle.protocol.proofs.Makers.{Maker, reading-turned, why-after, after-why}
+use Rattle.protocol.proofs.Makers.{Maker, reading-turned, why-after}
 
 pub record Before (hs : List Holding) (o q j : ℕ) : Type 0 where
   pub earlier : Holding

@@ -1,37 +1,35 @@
 -- The book follows the plain run: what each execution met, worked out and made. The statement, a new book, a begin.
 use mathlib.Core.Path.{_≡_, refl, sym, ap, _∙_, subst}
-use mathlib.Core.Bool.{Bool, true, false, not, cond, _&&_, _||_}
+use mathlib.Core.Bool.{true}
 use mathlib.Core.Logic.{_⊎_, inl, inr}
-use mathlib.Core.List.{List, [], _∷_, _++_, map}
-use Prim.Native.Nat.{ℕ, zero, suc, _+_, _≤_, _<_}
+use mathlib.Core.List.{List, [], _∷_, _++_}
+use Prim.Native.Nat.{ℕ, zero, suc, _<_}
 use native.Mathlib.Omega.{arith}
-use lib.Dec.{eqb}
-use lib.ListN.{length, getD, set, replicate, length-set}
+use lib.ListN.{length, getD, set, replicate}
 use lib.Seq.{getD-set-same, getD-set-other}
 use Rattle.std.specs.declared.option.Option.{Option}
 use Rattle.std.specs.declared.option.Option.the-variants.{Some, None}
-use Rattle.std.proofs.shelf.Tests.{both-ways, false≢true, cases-eq, eqb-true, eqb-false, eq-eqb, ne-eqb, and-parts, and-from, not-true}
-use Rattle.terms.specs.declared.modes.Mode.{Mode}
+use Rattle.std.proofs.shelf.Tests.{false≢true, cases-eq, eqb-true, eq-eqb, ne-eqb}
 use Rattle.protocol.specs.declared.holdings.Holding.{Holding}
 use Rattle.protocol.specs.declared.assumptions.Execution.{Execution}
 use Rattle.protocol.specs.declared.assumptions.Version.{Version}
 use Rattle.protocol.specs.declared.jobs.Job.{Job}
 use Rattle.terms.specs.declared.calls.Call.{Call}
-use Rattle.terms.specs.declared.calls.Call.the-variants.{Begin, Lock, Image, Commit, Abort}
+use Rattle.terms.specs.declared.calls.Call.the-variants.{Begin}
 use Rattle.protocol.proofs.Runs.{Runs}
 use Rattle.protocol.specs.Holdings.{turned, position}
 use Rattle.protocol.specs.Lists.{keep, In, is-some}
 use Rattle.protocol.specs.Model.{Model, new, job-at, kind-of, argument-of}
 use Rattle.protocol.specs.Past.{place-of, is-at}
-use Rattle.protocol.specs.PlainRun.{Playing, play-one, play, fresh, Plain, plain-one}
+use Rattle.protocol.specs.PlainRun.{play-one, play, fresh, Plain, plain-one}
 use Rattle.protocol.specs.Step.{next}
 use Rattle.terms.specs.Rule.{Rule}
-use Rattle.protocol.proofs.Lists.{in-keep, over-push}
+use Rattle.protocol.proofs.Lists.{over-push}
 use Rattle.protocol.proofs.Plays.{keep-push-yes, keep-push-no, keep-none, play-push}
 use Rattle.protocol.proofs.Assumed.{Com, Abo, Within}
 use Rattle.protocol.proofs.Accepted.{Begins}
 use Rattle.protocol.proofs.Before.{Before}
-use Rattle.protocol.proofs.Shape.{Shape, runs-small}
+use Rattle.protocol.proofs.Shape.{Shape}
 
 abbrev pub met-at : List Holding → Execution → ℕ → ℕ
 met-at hs e o = getD (e .met) (position (e .job) o hs) 0

@@ -1,44 +1,42 @@
 -- The end of a job keeps the book with the plain run.
-use mathlib.Core.Path.{_≡_, refl, sym, ap, _∙_, subst, subst₂}
-use mathlib.Core.Bool.{Bool, true, false, not, cond, _&&_, _||_}
+use mathlib.Core.Path.{_≡_, refl, sym, ap, _∙_, subst}
+use mathlib.Core.Bool.{Bool, true, false, not, _&&_}
 use mathlib.Core.Logic.{_⊎_, inl, inr}
-use mathlib.Core.List.{List, [], _∷_, _++_, map}
-use Prim.Native.Nat.{ℕ, zero, suc, _+_, _≤_, _<_}
+use mathlib.Core.List.{List, []}
+use Prim.Native.Nat.{ℕ, _<_}
 use native.Mathlib.Omega.{arith}
 use lib.Dec.{eqb}
-use lib.ListN.{length, getD, set, length-set}
-use lib.Seq.{getD-set-same, getD-set-other, ext-getD}
-use Rattle.std.specs.declared.option.Option.{Option}
-use Rattle.std.specs.declared.option.Option.the-variants.{Some, None}
-use Rattle.std.proofs.shelf.Tests.{both-ways, false≢true, cases-eq, cases-bool, eqb-true, eqb-false, eq-eqb, ne-eqb, and-parts, and-from, not-true}
+use lib.ListN.{length, getD, set}
+use lib.Seq.{getD-set-other, ext-getD}
+use Rattle.std.specs.declared.option.Option.the-variants.{None}
+use Rattle.std.proofs.shelf.Tests.{both-ways, cases-eq, cases-bool, eqb-true, eqb-false, eq-eqb, ne-eqb, and-parts, and-from, not-true}
 use Rattle.protocol.specs.declared.holdings.Holding.{Holding}
 use Rattle.protocol.specs.declared.assumptions.Assumption.{Assumption}
 use Rattle.protocol.specs.declared.assumptions.Execution.{Execution}
 use Rattle.protocol.specs.declared.assumptions.Version.{Version}
 use Rattle.terms.specs.declared.calls.Call.{Call}
-use Rattle.terms.specs.declared.calls.Call.the-variants.{Begin, Lock, Image, Commit, Abort}
+use Rattle.terms.specs.declared.calls.Call.the-variants.{Commit, Abort}
 use Rattle.protocol.proofs.Runs.{Runs}
-use Rattle.protocol.specs.Ending.{made-value, written}
-use Rattle.protocol.specs.Holdings.{holds, turned, position, waits}
-use Rattle.protocol.specs.Lists.{keep, any, In, Pairs, is-some}
-use Rattle.protocol.specs.Model.{Model, job-at, kind-of, argument-of}
-use Rattle.protocol.specs.Past.{place-of, is-at}
+use Rattle.protocol.specs.Ending.{written}
+use Rattle.protocol.specs.Holdings.{holds, turned, waits}
+use Rattle.protocol.specs.Lists.{keep, any, In}
+use Rattle.protocol.specs.Model.{Model, kind-of, argument-of}
+use Rattle.protocol.specs.Past.{is-at}
 use Rattle.protocol.specs.Places.{has}
-use Rattle.protocol.specs.PlainRun.{Playing, play-one, play, fresh, Plain, plain-one}
-use Rattle.protocol.specs.Settling.{denied, survives, settled, settled-execution, settled-version, settle}
+use Rattle.protocol.specs.PlainRun.{play, fresh, Plain, plain-one}
+use Rattle.protocol.specs.Settling.{denied, survives, settled-execution, settled-version, settle}
 use Rattle.protocol.specs.Step.{next}
 use Rattle.terms.specs.Rule.{Rule}
 use Rattle.protocol.specs.declared.jobs.Ending.{Ending}
 use Rattle.protocol.specs.declared.jobs.Ending.the-variants.{Committed}
 use Rattle.protocol.specs.declared.jobs.Ending.the-variants.{Aborted}
 use Rattle.protocol.proofs.Sets.{none-in, less, less-in}
-use Rattle.protocol.proofs.Lists.{in-keep, keep-in, over-keep, in-map, map-in, over-map, any-in, in-any, pairs-two}
+use Rattle.protocol.proofs.Lists.{in-keep, keep-in, over-keep, map-in, over-map, any-in, in-any, pairs-two}
 use Rattle.protocol.proofs.Waits.{rest}
 use Rattle.protocol.proofs.Plays.{keep-keep, keep-none, index-rest, length-play, made-is, written-other, written-same}
-use Rattle.protocol.proofs.Assumed.{Com, Abo, Sum, Within, Conflict, within-settled, within-survives, free-none, free-own}
+use Rattle.protocol.proofs.Assumed.{Com, Abo, Conflict, within-settled, within-survives, free-none, free-own}
 use Rattle.protocol.proofs.Accepted.{Commits}
-use Rattle.protocol.proofs.Makers.{Maker}
-use Rattle.protocol.proofs.Before.{Before, before-maker, before-waits, before-either, before-rest, rest-before}
+use Rattle.protocol.proofs.Before.{Before, before-maker, before-either, before-rest, rest-before}
 use Rattle.protocol.proofs.Shape.{Shape, runs-ended, ended-runs, runs-small, length-written}
 use Rattle.protocol.proofs.Assumes.{Assumes, ApartV}
 use Rattle.protocol.proofs.Follows.{met-at, Agrees, FromStore, FromVersion, Made, Turns, ops, Follows}

@@ -1,39 +1,36 @@
 -- An image keeps the book with the plain run.
-use mathlib.Core.Path.{_≡_, refl, sym, ap, _∙_, subst, subst₂}
-use mathlib.Core.Bool.{Bool, true, false, not, cond, _&&_, _||_}
+use mathlib.Core.Path.{_≡_, refl, sym, ap, _∙_, subst₂}
+use mathlib.Core.Bool.{Bool, true, false}
 use mathlib.Core.Logic.{_⊎_, inl, inr}
 use mathlib.Core.List.{List, [], _∷_, _++_, map}
-use Prim.Native.Nat.{ℕ, zero, suc, _+_, _≤_, _<_}
+use Prim.Native.Nat.{ℕ, _<_}
 use native.Mathlib.Omega.{arith}
-use lib.Dec.{eqb}
-use lib.ListN.{length, getD, set, length-set}
+use lib.ListN.{length, getD}
 use lib.Seq.{getD-set-same, getD-set-other}
-use Rattle.std.proofs.shelf.Tests.{both-ways, false≢true, cases-eq, eqb-true, eqb-false, eq-eqb, ne-eqb, and-parts, and-from, and-left, and-right, not-true}
+use Rattle.std.proofs.shelf.Tests.{false≢true, cases-eq, eq-eqb, ne-eqb, and-from, and-left, and-right}
 use Rattle.protocol.specs.declared.holdings.HoldingState.{HoldingState}
 use Rattle.protocol.specs.declared.holdings.Holding.{Holding}
 use Rattle.protocol.specs.declared.assumptions.Execution.{Execution}
 use Rattle.protocol.specs.declared.assumptions.Version.{Version}
 use Rattle.terms.specs.declared.calls.Call.{Call}
-use Rattle.terms.specs.declared.calls.Call.the-variants.{Begin, Lock, Image, Commit, Abort}
+use Rattle.terms.specs.declared.calls.Call.the-variants.{Image}
 use Rattle.protocol.proofs.Runs.{Runs}
 use Rattle.protocol.specs.Holdings.{holds, turned, opened, turn, turn-state, position}
 use Rattle.protocol.specs.Image.{version-by}
 use Rattle.protocol.specs.Lists.{keep, In}
 use Rattle.protocol.specs.Model.{Model, executions-of, names, job-at, kind-of, argument-of}
 use Rattle.protocol.specs.Past.{place-of, is-at}
-use Rattle.protocol.specs.Places.{has, single}
-use Rattle.protocol.specs.PlainRun.{Playing, play-one, play, fresh, Plain, plain-one}
+use Rattle.protocol.specs.PlainRun.{play-one, play, fresh, Plain, plain-one}
 use Rattle.protocol.specs.Step.{next}
 use Rattle.terms.specs.Rule.{Rule}
 use Rattle.protocol.proofs.Sets.{join-cases, single-is}
-use Rattle.protocol.proofs.Lists.{in-keep, keep-in, over-push, append-left, append-right, in-map, map-in, over-map, behind-two}
+use Rattle.protocol.proofs.Lists.{keep-in, over-push, append-left, append-right, in-map, map-in, over-map, behind-two}
 use Rattle.protocol.proofs.Plays.{index-turn, length-play}
-use Rattle.protocol.proofs.Assumed.{Com, Abo, Within}
 use Rattle.protocol.proofs.Accepted.{Images}
 use Rattle.protocol.proofs.Makers.{opened-turned}
 use Rattle.protocol.proofs.Before.{Before, before-turn, turn-before, turned-turn}
 use Rattle.protocol.proofs.Shape.{Shape, open-turns}
-use Rattle.protocol.proofs.Follows.{met-at, Agrees, FromStore, FromVersion, Made, Turns, ops, Follows, push-own, push-other}
+use Rattle.protocol.proofs.Follows.{Agrees, FromStore, FromVersion, Made, Turns, ops, Follows, push-own, push-other}
 
 module _ (r : Rule) (m : Model) (s : Plain) (p o : ℕ) (b : Images m p o) (sh : Shape m) (f : Follows r m s) where
   abbrev hs : List Holding

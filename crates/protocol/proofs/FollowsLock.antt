@@ -1,37 +1,35 @@
 -- A lock keeps the book with the plain run.
 use mathlib.Core.Path.{_≡_, refl, sym, ap, _∙_, subst}
-use mathlib.Core.Bool.{Bool, true, false, not, cond, _&&_, _||_}
+use mathlib.Core.Bool.{true, not}
 use mathlib.Core.Logic.{_⊎_, inl, inr}
-use mathlib.Core.List.{List, [], _∷_, _++_, map}
-use Prim.Native.Nat.{ℕ, zero, suc, _+_, _≤_, _<_}
+use mathlib.Core.List.{List, [], _∷_, _++_}
+use Prim.Native.Nat.{ℕ}
 use native.Mathlib.Omega.{arith}
-use lib.Dec.{eqb}
-use lib.ListN.{length, getD, set, length-set}
+use lib.ListN.{length, getD, set}
 use lib.Seq.{getD-set-same, getD-set-other}
-use Rattle.std.proofs.shelf.Tests.{both-ways, false≢true, cases-eq, eqb-true, eqb-false, eq-eqb, ne-eqb, and-parts, and-from, not-true}
+use Rattle.std.proofs.shelf.Tests.{false≢true, cases-eq, eqb-false, not-true}
 use Rattle.terms.specs.declared.modes.Mode.{Mode}
 use Rattle.terms.specs.declared.modes.Mode.the-variants.{Read, Write}
 use Rattle.protocol.specs.Assumptions.{commits-of, aborts-of}
 use Rattle.protocol.specs.declared.holdings.Holding.{Holding}
 use Rattle.protocol.specs.declared.assumptions.Execution.{Execution}
-use Rattle.protocol.specs.declared.assumptions.Version.{Version}
 use Rattle.terms.specs.declared.calls.Call.{Call}
-use Rattle.terms.specs.declared.calls.Call.the-variants.{Begin, Lock, Image, Commit, Abort}
+use Rattle.terms.specs.declared.calls.Call.the-variants.{Lock}
 use Rattle.protocol.proofs.Runs.{Runs}
-use Rattle.protocol.specs.Holdings.{held-by, begins, turned, position, makers, later-makers}
+use Rattle.protocol.specs.Holdings.{held-by, begins, turned, position}
 use Rattle.protocol.specs.Lists.{keep, In}
 use Rattle.protocol.specs.Model.{Model, holding-count, names, job-at, kind-of, argument-of}
-use Rattle.protocol.specs.Pairing.{offer, stored-offer, offers, is-kept, pairing, kept-pairs}
+use Rattle.protocol.specs.Pairing.{offers, pairing, kept-pairs}
 use Rattle.protocol.specs.Past.{place-of, is-at}
 use Rattle.protocol.specs.Places.{has}
-use Rattle.protocol.specs.PlainRun.{Playing, play-one, play, fresh, Plain, plain-one}
+use Rattle.protocol.specs.PlainRun.{play-one, play, fresh, Plain, plain-one}
 use Rattle.protocol.specs.Step.{next}
 use Rattle.terms.specs.Rule.{Rule}
 use Rattle.protocol.specs.declared.assumptions.Offer.{Offer}
 use Rattle.protocol.proofs.Sets.{join-left, join-right}
-use Rattle.protocol.proofs.Lists.{in-keep, over-keep, over-append, over-push, append-left, append-right, append-cases}
+use Rattle.protocol.proofs.Lists.{over-keep, over-append, over-push, append-left, append-right, append-cases}
 use Rattle.protocol.proofs.Plays.{index-push, index-new, index-less}
-use Rattle.protocol.proofs.Assumed.{Com, Abo, Within}
+use Rattle.protocol.proofs.Assumed.{Com}
 use Rattle.protocol.proofs.Accepted.{Locks}
 use Rattle.protocol.proofs.Makers.{Maker, why-makers}
 use Rattle.protocol.proofs.Before.{Before, before-maker, before-push, before-more, before-new, after-before}

@@ -1,9 +1,9 @@
 -- The law of the book.
 use mathlib.Core.Path.{_≡_, refl, sym, ap, _∙_, subst}
-use mathlib.Core.Bool.{Bool, true, false, not, cond, _&&_}
-use mathlib.Core.Logic.{_⊎_, inl, inr}
+use mathlib.Core.Bool.{true, false, cond}
+use mathlib.Core.Logic.{inl, inr}
 use mathlib.Core.List.{List, [], _∷_, _++_, map}
-use Prim.Native.Nat.{ℕ, zero, suc, _≤_, _<_}
+use Prim.Native.Nat.{ℕ, zero, suc, _<_}
 use native.Mathlib.Omega.{arith}
 use lib.Dec.{eqb}
 use lib.ListN.{length, getD, set, replicate}
@@ -18,12 +18,12 @@ use Rattle.terms.specs.declared.calls.Call.the-variants.{Begin, Lock, Image, Co
 use Rattle.protocol.specs.declared.refusals.Refusal.{Refusal}
 use Rattle.protocol.proofs.Runs.{Runs}
 use Rattle.protocol.specs.History.{History, history-one, history, blank, has-ended, aborts}
-use Rattle.protocol.specs.Holdings.{begins, makers, waits, spread}
+use Rattle.protocol.specs.Holdings.{begins, waits}
 use Rattle.protocol.specs.Law.{Stands}
 use Rattle.protocol.specs.Lists.{is-some, keep}
-use Rattle.protocol.specs.Model.{job-at, Model, new, executions-of}
-use Rattle.protocol.specs.Past.{Event, past}
-use Rattle.protocol.specs.Places.{has, single, join, without}
+use Rattle.protocol.specs.Model.{job-at, Model, new}
+use Rattle.protocol.specs.Past.{past}
+use Rattle.protocol.specs.Places.{has}
 use Rattle.protocol.specs.PlainRun.{Plain, plain-one, plain}
 use Rattle.protocol.specs.Settling.{settle}
 use Rattle.protocol.specs.Step.{next, answer, step, run}
@@ -35,8 +35,8 @@ use Rattle.protocol.proofs.Sets.{none-in}
 use Rattle.protocol.proofs.Shape.{Shape, runs-small}
 use Rattle.protocol.proofs.Waits.{why-waits}
 use Rattle.protocol.specs.Waiting.{Waits-for}
-use Rattle.protocol.proofs.Accepted.{begins-ok, locks-ok, images-ok, commits-ok, aborts-ok}
-use Rattle.protocol.proofs.Relies.{Goes, Able, Relies, relies-new, relies-begin, relies-image, one-execution, reset}
+use Rattle.protocol.proofs.Accepted.{begins-ok, locks-ok, commits-ok, aborts-ok}
+use Rattle.protocol.proofs.Relies.{Relies, relies-new, relies-begin, relies-image, one-execution, reset}
 use Rattle.protocol.proofs.RelyLock.{relies-lock}
 use Rattle.protocol.proofs.RelyEnd.{relies-settle}
 use Rattle.protocol.proofs.Tracks.{Tracks, all-ended, tracks-begin, tracks-lock, tracks-end}

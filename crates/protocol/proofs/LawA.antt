@@ -1,29 +1,22 @@
 -- After every past the values are those of the plain run, and a job that runs leads to one that waits for none.
-use mathlib.Core.Path.{_≡_, refl, sym, ap, _∙_, subst}
-use mathlib.Core.Bool.{Bool, true, false, not}
-use mathlib.Core.Logic.{_⊎_, inl, inr}
-use mathlib.Core.List.{List, [], _∷_, _++_, map}
-use Prim.Native.Nat.{ℕ, suc, _<_}
+use mathlib.Core.Path.{_≡_, refl, sym, subst}
+use mathlib.Core.Logic.{inl, inr}
+use mathlib.Core.List.{List, []}
+use Prim.Native.Nat.{ℕ, suc}
 use native.Mathlib.Omega.{arith}
-use lib.Dec.{eqb}
-use Rattle.std.specs.declared.option.Option.{Option}
-use Rattle.std.specs.declared.option.Option.the-variants.{Some, None}
-use Rattle.protocol.specs.declared.holdings.Holding.{Holding}
+use Rattle.std.specs.declared.option.Option.the-variants.{None}
 use Rattle.terms.specs.declared.calls.Call.{Call}
 use Rattle.terms.specs.declared.calls.Call.the-variants.{Begin, Lock, Image, Commit, Abort}
-use Rattle.protocol.specs.declared.refusals.Refusal.{Refusal}
 use Rattle.protocol.proofs.Runs.{Runs}
-use Rattle.protocol.specs.Holdings.{waits, turn, begins}
-use Rattle.protocol.specs.Lists.{In}
+use Rattle.protocol.specs.Holdings.{waits, begins}
 use Rattle.protocol.specs.Model.{Model, new}
-use Rattle.protocol.specs.Past.{Event, past}
-use Rattle.protocol.specs.PlainRun.{Plain, plain-one, plain}
+use Rattle.protocol.specs.PlainRun.{Plain, plain-one}
 use Rattle.protocol.specs.Settling.{settle}
-use Rattle.protocol.specs.Step.{next, answer, step, run}
+use Rattle.protocol.specs.Step.{next, answer}
 use Rattle.terms.specs.Rule.{Rule}
 use Rattle.protocol.specs.declared.jobs.Ending.the-variants.{Committed}
 use Rattle.protocol.specs.declared.jobs.Ending.the-variants.{Aborted}
-use Rattle.protocol.proofs.Waits.{waits-turn, waits-rest, rest}
+use Rattle.protocol.proofs.Waits.{waits-turn, waits-rest}
 use Rattle.protocol.specs.Ranks.{Acyclic}
 use Rattle.protocol.proofs.Acyclic.{Small, acyclic-none, acyclic-fewer, acyclic-push, free}
 use Rattle.protocol.proofs.Accepted.{begins-ok, locks-ok, images-ok, commits-ok, aborts-ok}

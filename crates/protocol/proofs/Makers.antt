@@ -1,18 +1,17 @@
 -- The makers of an object, and those later-makers one of them.
 use mathlib.Core.Path.{_≡_, refl, sym, ap, _∙_, subst}
-use mathlib.Core.Bool.{Bool, true, false, not, cond, _&&_, _||_}
+use mathlib.Core.Bool.{Bool, true, false, not, _&&_}
 use mathlib.Core.Logic.{_⊎_, inl, inr}
-use mathlib.Core.List.{List, [], _∷_, _++_, map}
+use mathlib.Core.List.{List, [], _∷_}
 use Prim.Native.Nat.{ℕ}
-use lib.Dec.{eqb}
-use Rattle.std.proofs.shelf.Tests.{both-ways, false≢true, eqb-true, eqb-false, eq-eqb, ne-eqb, and-parts, and-from, cases-bool}
+use Rattle.std.proofs.shelf.Tests.{both-ways, false≢true, eqb-true, eq-eqb, ne-eqb, and-parts, and-from}
 use Rattle.protocol.specs.declared.holdings.HoldingState.{HoldingState}
 use Rattle.protocol.specs.declared.holdings.HoldingState.the-variants.{Reading, Open, Turned}
 use Rattle.protocol.specs.declared.holdings.Holding.{Holding}
-use Rattle.protocol.specs.Holdings.{holds, makes, turned, opened, reading, clash, jobs-of, makers, later-makers, new-waits}
+use Rattle.protocol.specs.Holdings.{holds, makes, turned, opened, reading, makers, later-makers, new-waits}
 use Rattle.protocol.specs.Lists.{In, Behind}
-use Rattle.protocol.specs.Places.{has, single, join}
-use Rattle.protocol.proofs.Sets.{none-in, join-right}
+use Rattle.protocol.specs.Places.{has}
+use Rattle.protocol.proofs.Sets.{none-in}
 use Rattle.protocol.proofs.Lists.{behind-in, behind-two}
 use Rattle.protocol.proofs.Waits.{jobs-in, in-jobs}
 

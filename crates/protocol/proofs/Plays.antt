@@ -1,14 +1,14 @@
 -- The plain run of one job's calls, the place of an object among those that a job holds, and what a commit writes.
 use mathlib.Core.Path.{_≡_, refl, sym, ap, _∙_, subst}
-use mathlib.Core.Bool.{Bool, true, false, not, cond, _&&_, _||_}
+use mathlib.Core.Bool.{Bool, true, false, not, cond, _&&_}
 use mathlib.Core.Logic.{_⊎_, inl, inr}
 use mathlib.Core.List.{List, [], _∷_, _++_, map}
-use Prim.Native.Nat.{ℕ, zero, suc, _+_, _≤_, _<_}
+use Prim.Native.Nat.{ℕ, suc, _<_}
 use native.Mathlib.Omega.{arith}
 use lib.Dec.{eqb}
 use lib.ListN.{length, getD, set, length-set}
 use lib.Seq.{getD-set-same, getD-set-other}
-use Rattle.std.proofs.shelf.Tests.{both-ways, false≢true, cases-eq, eqb-true, eqb-false, eq-eqb, ne-eqb, and-parts, and-from, not-true}
+use Rattle.std.proofs.shelf.Tests.{both-ways, false≢true, cases-eq, eqb-true, eq-eqb, and-parts, and-from}
 use Rattle.protocol.specs.declared.holdings.Holding.{Holding}
 use Rattle.protocol.specs.declared.assumptions.Version.{Version}
 use Rattle.terms.specs.declared.calls.Call.{Call}

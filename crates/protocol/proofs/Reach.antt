@@ -1,15 +1,15 @@
 -- Reach is closed: what a place in it waits for is in it.
-use mathlib.Core.Path.{_≡_, refl, sym, ap, _∙_, subst}
-use mathlib.Core.Bool.{Bool, true, false, cond}
+use mathlib.Core.Path.{_≡_, refl, sym, _∙_, subst}
+use mathlib.Core.Bool.{true}
 use mathlib.Core.Logic.{_⊎_, inl, inr}
-use Prim.Native.Nat.{ℕ, zero, suc, _+_, _/_, _%_, _^_, _≤_, _<_}
+use Prim.Native.Nat.{ℕ, zero, suc, _+_, _/_, _%_, _≤_, _<_}
 use native.Mathlib.Omega.{arith}
 use lib.Dec.{eqb}
 use lib.Count.{onesIn}
-use Rattle.std.proofs.shelf.Tests.{cases-lt, true≢false}
+use Rattle.std.proofs.shelf.Tests.{cases-lt}
 use Rattle.protocol.specs.Holdings.{spread, rounds, reach}
-use Rattle.protocol.specs.Places.{has, join, size}
-use Rattle.protocol.proofs.PlaceLaws.{has-suc, has-first, Digit, d0, d1, digit-of, ones-mono, size-mono}
+use Rattle.protocol.specs.Places.{has, size}
+use Rattle.protocol.proofs.PlaceLaws.{has-suc, has-first, Digit, d0, d1, digit-of, ones-mono}
 use Rattle.protocol.proofs.Sets.{join-left, join-right, join-cases, cond-in, in-cond}
 
 -- ---- sets of one size, one in the other, have the same members

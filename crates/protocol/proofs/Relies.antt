@@ -1,52 +1,36 @@
 -- Executions rely on the jobs that the history names, and there is one for each way in which these may end.
-use mathlib.Core.Path.{_≡_, refl, sym, ap, _∙_, subst, subst₂}
-use mathlib.Core.Bool.{Bool, true, false, not, cond, _&&_, _||_}
+use mathlib.Core.Path.{_≡_, refl, sym, ap, _∙_, subst}
+use mathlib.Core.Bool.{true, false, cond}
 use mathlib.Core.Logic.{_⊎_, inl, inr}
-use mathlib.Core.List.{List, [], _∷_, _++_, map}
-use Prim.Native.Nat.{ℕ, zero, suc, _+_, _≤_, _<_}
+use mathlib.Core.List.{List, [], _∷_}
+use Prim.Native.Nat.{ℕ, _+_, _≤_, _<_}
 use native.Mathlib.Omega.{arith}
-use lib.Dec.{eqb, leb}
+use lib.Dec.{eqb}
 use lib.ListN.{length, getD, set, replicate}
 use lib.Seq.{getD-set-other}
-use Rattle.std.specs.declared.option.Option.{Option}
 use Rattle.std.specs.declared.option.Option.the-variants.{Some, None}
-use Rattle.std.proofs.shelf.Tests.{both-ways, false≢true, true≢false, cases-eq, cases-bool, eqb-true, eqb-false, eq-eqb, ne-eqb, and-parts, and-from, not-true, le-leb, cond-true, cond-false}
-use Rattle.terms.specs.declared.modes.Mode.{Mode}
+use Rattle.std.proofs.shelf.Tests.{cases-eq, eqb-true, eq-eqb, ne-eqb, cond-true, cond-false}
 use Rattle.protocol.specs.Assumptions.{aborts-of, assume}
-use Rattle.protocol.specs.declared.holdings.Holding.{Holding}
 use Rattle.protocol.specs.declared.assumptions.Assumption.{Assumption}
 use Rattle.protocol.specs.declared.assumptions.Execution.{Execution}
 use Rattle.protocol.specs.declared.assumptions.Version.{Version}
-use Rattle.protocol.specs.declared.jobs.Job.{Job}
-use Rattle.terms.specs.declared.calls.Call.{Call}
-use Rattle.terms.specs.declared.calls.Call.the-variants.{Begin, Lock, Image, Commit, Abort}
+use Rattle.terms.specs.declared.calls.Call.the-variants.{Begin, Image}
 use Rattle.protocol.proofs.Runs.{Runs}
-use Rattle.protocol.specs.History.{is-aborted}
-use Rattle.protocol.specs.Holdings.{makes, holds, turned, makers, later-makers, spread, position}
+use Rattle.protocol.specs.Holdings.{position}
 use Rattle.protocol.specs.Image.{version-by}
-use Rattle.protocol.specs.Lists.{keep, each, In, Pairs, Behind, is-some}
+use Rattle.protocol.specs.Lists.{In, Pairs, is-some}
 use Rattle.protocol.specs.Model.{Model, new, executions-of, names, job-at}
-use Rattle.protocol.specs.Pairing.{offer, stored-offer, offers, is-kept, pairing, kept-pairs}
-use Rattle.protocol.specs.Places.{has, single, join, without, size}
-use Rattle.protocol.specs.Settling.{denied, survives, settled, settled-execution, settled-version, settle}
+use Rattle.protocol.specs.Places.{has, size}
 use Rattle.protocol.specs.Step.{next}
 use Rattle.terms.specs.Rule.{Rule}
-use Rattle.protocol.specs.declared.assumptions.Offer.{Offer}
-use Rattle.protocol.specs.declared.jobs.Ending.{Ending}
-use Rattle.protocol.specs.declared.jobs.Ending.the-variants.{Committed}
-use Rattle.protocol.specs.declared.jobs.Ending.the-variants.{Aborted}
-use Rattle.protocol.proofs.PlaceLaws.{size-join, size-mono}
-use Rattle.protocol.proofs.Sets.{none-in, join-left, join-right, join-cases, single-is, less, less-in, has-less}
-use Rattle.protocol.proofs.Counts.{meet, meet-in, in-meet, apart-disjoint, size-less, size-zero}
-use Rattle.protocol.proofs.Lists.{in-keep, keep-in, over-keep, over-append, over-push, append-left, append-right, append-cases, in-map, map-in, over-map, each-in, pairs-keep, pairs-in}
-use Rattle.protocol.proofs.Reach.{spread-more, spread-next, spread-why}
-use Rattle.protocol.proofs.Assumed.{Com, Abo, Sum, Chained, not-own}
-use Rattle.protocol.specs.Ranks.{Acyclic}
-use Rattle.protocol.proofs.Accepted.{Begins, Locks, Images, Commits}
-use Rattle.protocol.proofs.Makers.{Maker, makers-why, why-makers, after-makers}
-use Rattle.protocol.proofs.Shape.{Shape, runs-small, runs-begun, runs-ended, ended-runs, over-paired, over-offers}
+use Rattle.protocol.proofs.PlaceLaws.{size-mono}
+use Rattle.protocol.proofs.Sets.{none-in, join-cases, single-is}
+use Rattle.protocol.proofs.Counts.{meet, in-meet, size-zero}
+use Rattle.protocol.proofs.Lists.{in-keep, keep-in, over-keep, over-append, over-push, append-left, append-right, append-cases, over-map, pairs-keep, pairs-in}
+use Rattle.protocol.proofs.Assumed.{Com, Abo, Sum}
+use Rattle.protocol.proofs.Accepted.{Begins}
+use Rattle.protocol.proofs.Shape.{Shape, runs-begun}
 use Rattle.protocol.proofs.Assumes.{Assumes, ApartE}
-use Rattle.protocol.proofs.Follows.{Follows, Made, Turns}
 
 -- ab: the jobs that abort in a way in which the running jobs may end. An assumption goes with it
 pub record Goes (a : Assumption) (ab : ℕ) : Type 0 where

@@ -1,33 +1,28 @@
 -- The end of a job keeps an execution for each way in which the others may end.
-use mathlib.Core.Path.{_≡_, refl, sym, ap, ap₂, _∙_, subst}
+use mathlib.Core.Path.{_≡_, refl, sym, ap, _∙_, subst}
 use mathlib.Core.Bool.{Bool, true, false, not, cond, _&&_, _||_}
 use mathlib.Core.Logic.{_⊎_, inl, inr}
-use mathlib.Core.List.{List, [], _∷_, _++_, map}
-use Prim.Native.Nat.{ℕ, zero, suc, _+_, _≤_, _<_}
+use mathlib.Core.List.{List}
+use Prim.Native.Nat.{ℕ, _+_, _≤_, _<_}
 use native.Mathlib.Omega.{arith}
-use lib.Dec.{eqb}
-use lib.ListN.{length, getD, set}
-use Rattle.std.specs.declared.option.Option.{Option}
-use Rattle.std.specs.declared.option.Option.the-variants.{Some, None}
-use Rattle.std.proofs.shelf.Tests.{both-ways, false≢true, true≢false, cases-eq, cases-bool, eqb-true, eqb-false, eq-eqb, ne-eqb, and-parts, and-from, not-true}
+use lib.ListN.{length}
+use Rattle.std.proofs.shelf.Tests.{both-ways, cases-eq, cases-bool, eq-eqb, ne-eqb, and-parts, and-from, not-true}
 use Rattle.protocol.specs.Assumptions.{aborts-of}
 use Rattle.protocol.specs.declared.assumptions.Assumption.{Assumption}
 use Rattle.protocol.specs.declared.assumptions.Execution.{Execution}
-use Rattle.protocol.specs.declared.assumptions.Version.{Version}
 use Rattle.protocol.proofs.Runs.{Runs}
 use Rattle.protocol.specs.History.{is-aborted}
-use Rattle.protocol.specs.Lists.{keep, In}
+use Rattle.protocol.specs.Lists.{In}
 use Rattle.protocol.specs.Model.{Model}
 use Rattle.protocol.specs.Places.{has, single, join, without, size}
 use Rattle.protocol.specs.Settling.{denied, survives, settled, settled-execution, settled-version, settle}
-use Rattle.terms.specs.Rule.{Rule}
 use Rattle.protocol.specs.declared.jobs.Ending.{Ending}
 use Rattle.protocol.specs.declared.jobs.Ending.the-variants.{Committed}
 use Rattle.protocol.specs.declared.jobs.Ending.the-variants.{Aborted}
 use Rattle.protocol.proofs.PlaceLaws.{size-mono, has-join, has-without, has-single}
 use Rattle.protocol.proofs.Sets.{less, less-in}
 use Rattle.protocol.proofs.Counts.{meet, meet-in, in-meet, size-less}
-use Rattle.protocol.proofs.Lists.{in-keep, keep-in, over-keep, map-in, over-map}
+use Rattle.protocol.proofs.Lists.{keep-in, over-keep, map-in, over-map}
 use Rattle.protocol.proofs.Assumed.{Com, Abo, Sum}
 use Rattle.protocol.proofs.Shape.{Shape, runs-small, runs-ended, ended-runs}
 use Rattle.protocol.proofs.Relies.{Goes, Able, Relies}

@@ -1,24 +1,21 @@
 -- A lock keeps an execution for each way in which the relied-on jobs may end.
-use mathlib.Core.Path.{_≡_, refl, sym, ap, _∙_, subst, subst₂}
-use mathlib.Core.Bool.{Bool, true, false, not, cond, _&&_, _||_}
+use mathlib.Core.Path.{_≡_, refl, sym, ap, _∙_, subst}
+use mathlib.Core.Bool.{true, false, not, cond}
 use mathlib.Core.Logic.{_⊎_, inl, inr}
 use mathlib.Core.List.{List, [], _∷_, _++_, map}
-use Prim.Native.Nat.{ℕ, zero, suc, _+_, _≤_, _<_}
+use Prim.Native.Nat.{ℕ, _+_, _≤_}
 use native.Mathlib.Omega.{arith}
-use lib.Dec.{eqb, leb}
-use lib.ListN.{length}
-use Rattle.std.proofs.shelf.Tests.{both-ways, false≢true, true≢false, cases-eq, cases-bool, eqb-true, eqb-false, eq-eqb, ne-eqb, and-parts, and-from, not-true, le-leb, cond-true, cond-false}
+use lib.Dec.{eqb}
+use Rattle.std.proofs.shelf.Tests.{both-ways, cases-eq, cases-bool, eqb-true, eq-eqb, ne-eqb, and-parts, and-from, le-leb, cond-true, cond-false}
 use Rattle.terms.specs.declared.modes.Mode.{Mode}
 use Rattle.protocol.specs.Assumptions.{commits-of, aborts-of}
 use Rattle.protocol.specs.declared.holdings.Holding.{Holding}
-use Rattle.protocol.specs.declared.assumptions.Assumption.{Assumption}
 use Rattle.protocol.specs.declared.assumptions.Execution.{Execution}
 use Rattle.protocol.specs.declared.assumptions.Version.{Version}
-use Rattle.terms.specs.declared.calls.Call.{Call}
-use Rattle.terms.specs.declared.calls.Call.the-variants.{Begin, Lock, Image, Commit, Abort}
+use Rattle.terms.specs.declared.calls.Call.the-variants.{Lock}
 use Rattle.protocol.proofs.Runs.{Runs}
-use Rattle.protocol.specs.Holdings.{begins, makes, holds, turned, jobs-of, makers, later-makers, spread}
-use Rattle.protocol.specs.Lists.{keep, each, In, Behind}
+use Rattle.protocol.specs.Holdings.{begins, makes, turned, jobs-of, makers, later-makers, spread}
+use Rattle.protocol.specs.Lists.{keep, In, Behind}
 use Rattle.protocol.specs.Model.{Model, executions-of, names}
 use Rattle.protocol.specs.Pairing.{offer, stored-offer, offers, is-kept, pairing, kept-pairs}
 use Rattle.protocol.specs.Places.{has, single, join, without, size}
@@ -29,15 +26,15 @@ use Rattle.protocol.specs.declared.assumptions.Offer.{Offer}
 use Rattle.protocol.proofs.PlaceLaws.{size-join, size-mono}
 use Rattle.protocol.proofs.Sets.{none-in, join-left, join-right, join-cases, less, less-in}
 use Rattle.protocol.proofs.Counts.{meet, meet-in, in-meet, apart-disjoint}
-use Rattle.protocol.proofs.Lists.{in-keep, keep-in, over-keep, over-append, append-left, append-right, append-cases, map-in, each-in, behind-in}
+use Rattle.protocol.proofs.Lists.{keep-in, over-keep, over-append, append-left, append-right, map-in, each-in, behind-in}
 use Rattle.protocol.proofs.Reach.{spread-more, spread-next, spread-why}
-use Rattle.protocol.proofs.Assumed.{Com, Abo, Sum, Chained, not-own}
+use Rattle.protocol.proofs.Assumed.{Sum, not-own}
 use Rattle.protocol.specs.Ranks.{Acyclic}
 use Rattle.protocol.proofs.Accepted.{Locks}
 use Rattle.protocol.proofs.Makers.{Maker, makers-why, why-makers, after-makers, after-why, why-after}
 use Rattle.protocol.proofs.Shape.{Shape, runs-small, over-paired, over-offers}
 use Rattle.protocol.proofs.Assumes.{Assumes, pair-chain}
-use Rattle.protocol.proofs.Follows.{Follows, Made, Turns}
+use Rattle.protocol.proofs.Follows.{Follows}
 use Rattle.protocol.proofs.Relies.{Goes, Able, Relies}
 
 -- ---- the last maker that commits

@@ -1,6 +1,6 @@
 -- The test for a ring finds exactly the rings.
-use mathlib.Core.Path.{_≡_, refl, sym, ap, _∙_, subst}
-use mathlib.Core.Bool.{Bool, true, false}
+use mathlib.Core.Path.{_≡_}
+use mathlib.Core.Bool.{true}
 use mathlib.Core.Logic.{_↔_, _⊎_, inl, inr}
 use mathlib.Core.List.{List, [], _∷_, _++_}
 use Prim.Native.Nat.{ℕ, zero, suc, _<_}
@@ -9,7 +9,7 @@ use Rattle.terms.specs.declared.calls.Call.{Call}
 use Rattle.terms.specs.Rule.{Rule}
 use Rattle.protocol.specs.declared.holdings.Holding.{Holding}
 use Rattle.protocol.specs.Holdings.{waits, new-waits, spread, rounds, reach, would-ring}
-use Rattle.protocol.specs.Model.{Model, new}
+use Rattle.protocol.specs.Model.{new}
 use Rattle.protocol.specs.Places.{has}
 use Rattle.protocol.specs.RingTest.{Ring-test, No-ring, Of-places}
 use Rattle.protocol.specs.Step.{run}

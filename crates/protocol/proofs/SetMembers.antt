@@ -1,9 +1,9 @@
 -- Sets of places are told apart by their members, and their sizes count them.
-use mathlib.Core.Path.{_≡_, refl, sym, ap, ap₂, _∙_}
+use mathlib.Core.Path.{_≡_, refl, sym, ap, _∙_}
 use mathlib.Core.Bool.{Bool, true, false, not, cond, _&&_, _||_}
-use mathlib.Core.Logic.{_⊎_, inl, inr}
+use mathlib.Core.Logic.{inl, inr}
 use mathlib.Core.List.{List, [], _∷_, map}
-use Prim.Native.Nat.{ℕ, zero, suc, _+_, _-_, _*_, _/_, _%_, _^_, _≤_, _<_}
+use Prim.Native.Nat.{ℕ, zero, suc, _+_, _-_, _/_, _%_, _^_, _≤_, _<_}
 use native.Mathlib.Nat.{pow-suc, mod-lt, zero-lt-suc}
 use native.Mathlib.Omega.{arith}
 use lib.Count.{onesIn}
@@ -12,7 +12,7 @@ use lib.ListN.{length}
 use lib.Pow.{field, mod-mod-pow}
 use Rattle.std.proofs.shelf.Tests.{true≢false, false≢true, cases-lt, lt-ltb, le-ltb}
 use Rattle.protocol.specs.Lists.{keep}
-use Rattle.protocol.specs.Places.{has, placed, join, without, disjoint, size}
+use Rattle.protocol.specs.Places.{has, placed, join, without, size}
 use Rattle.protocol.specs.SetLaws.{Set-laws, places}
 use Rattle.protocol.proofs.Counts.{apart-disjoint}
 use Rattle.protocol.proofs.PlaceLaws.{Digit, d0, d1, digit-of, has-suc, has-first, has-zero, has-single, has-join, has-without, has-past, disjoint-apart, size-join, size-mono}

@@ -1,16 +1,16 @@
 -- The records of the book name jobs that run; an object is holding-count once by a job, and not behind an open holding.
 use mathlib.Core.Path.{_≡_, refl, sym, ap, _∙_, subst}
-use mathlib.Core.Bool.{Bool, true, false, not, cond, _&&_, _||_}
-use mathlib.Core.Logic.{_⊎_, inl, inr}
-use mathlib.Core.List.{List, [], _∷_, _++_, map}
-use Prim.Native.Nat.{ℕ, _+_, _≤_, _<_}
+use mathlib.Core.Bool.{Bool, true, false, not, _&&_}
+use mathlib.Core.Logic.{inl, inr}
+use mathlib.Core.List.{List, [], _∷_, map}
+use Prim.Native.Nat.{ℕ, _<_}
 use native.Mathlib.Omega.{arith}
 use lib.Dec.{eqb}
-use lib.ListN.{length, getD, set, replicate, length-set, length-replicate, List·getD-eq-default}
+use lib.ListN.{length, getD, set, length-set, List·getD-eq-default}
 use lib.Seq.{getD-set-same, getD-set-other}
 use Rattle.std.specs.declared.option.Option.{Option}
 use Rattle.std.specs.declared.option.Option.the-variants.{Some, None}
-use Rattle.std.proofs.shelf.Tests.{both-ways, false≢true, cases-eq, cases-lt, cases-bool, eqb-true, eqb-false, ne-eqb, eq-eqb, not-true, and-parts, and-from}
+use Rattle.std.proofs.shelf.Tests.{false≢true, cases-eq, cases-lt, eqb-true, eqb-false, ne-eqb, eq-eqb, not-true, and-parts, and-from}
 use Rattle.protocol.specs.declared.holdings.HoldingState.{HoldingState}
 use Rattle.protocol.specs.declared.holdings.HoldingState.the-variants.{Reading, Open, Turned}
 use Rattle.terms.specs.declared.modes.Mode.{Mode}
@@ -18,22 +18,20 @@ use Rattle.protocol.specs.declared.holdings.Holding.{Holding}
 use Rattle.protocol.specs.declared.assumptions.Execution.{Execution}
 use Rattle.protocol.specs.declared.assumptions.Version.{Version}
 use Rattle.protocol.specs.declared.jobs.Job.{Job}
-use Rattle.terms.specs.declared.calls.Call.{Call}
-use Rattle.terms.specs.declared.calls.Call.the-variants.{Begin, Lock, Image, Commit, Abort}
+use Rattle.terms.specs.declared.calls.Call.the-variants.{Begin, Lock, Image}
 use Rattle.protocol.proofs.Runs.{Runs}
 use Rattle.protocol.specs.Ending.{written, made-value}
-use Rattle.protocol.specs.Holdings.{holds, turned, opened, begins, turn, turn-state, position}
-use Rattle.protocol.specs.Image.{version-by}
-use Rattle.protocol.specs.Lists.{keep, any, each, is-some, In, Behind}
-use Rattle.protocol.specs.Model.{Model, new, executions-of, names, holding-count, job-at, kind-of, argument-of}
+use Rattle.protocol.specs.Holdings.{holds, turned, opened, turn, turn-state}
+use Rattle.protocol.specs.Lists.{keep, is-some, In, Behind}
+use Rattle.protocol.specs.Model.{Model, new, executions-of, names, holding-count}
 use Rattle.protocol.specs.Pairing.{offers, kept-pairs, pairing, is-kept, offer, stored-offer}
-use Rattle.protocol.specs.Settling.{settle, settled-execution, settled-version, survives}
+use Rattle.protocol.specs.Settling.{settle, settled-execution, settled-version}
 use Rattle.protocol.specs.Step.{next}
 use Rattle.terms.specs.Rule.{Rule}
 use Rattle.protocol.specs.declared.assumptions.Offer.{Offer}
 use Rattle.protocol.specs.declared.jobs.Ending.{Ending}
-use Rattle.protocol.proofs.Lists.{in-keep, keep-in, over-keep, over-append, over-push, in-map, map-in, over-map, over-each, append-left, append-right, behind-in, push-cases, in-keep-behind, in-map-behind}
-use Rattle.protocol.proofs.Accepted.{Begins, Locks, Images, Commits}
+use Rattle.protocol.proofs.Lists.{in-keep, keep-in, over-keep, over-append, over-push, map-in, over-map, over-each, append-left, push-cases, in-keep-behind, in-map-behind}
+use Rattle.protocol.proofs.Accepted.{Begins, Locks, Images}
 
 pub record Shape (m : Model) : Type 0 where
   pub places : length (m .jobs) ≡ 16

@@ -1,35 +1,32 @@
 -- The history by numbers of begins, and the same by places: which running jobs each relies on, and how many have Aborted.
-use mathlib.Core.Path.{_≡_, refl, sym, ap, ap₂, _∙_, subst, subst₂}
-use mathlib.Core.Bool.{Bool, true, false, not, cond, _&&_, _||_}
+use mathlib.Core.Path.{_≡_, refl, sym, ap, _∙_, subst, subst₂}
+use mathlib.Core.Bool.{Bool, true, false, not, cond, _&&_}
 use mathlib.Core.Logic.{_⊎_, inl, inr}
-use mathlib.Core.List.{List, [], _∷_, _++_, map}
-use Prim.Native.Nat.{ℕ, zero, suc, _+_, _≤_, _<_}
+use mathlib.Core.List.{List, [], _∷_, _++_}
+use Prim.Native.Nat.{ℕ, _+_, _≤_, _<_}
 use native.Mathlib.Omega.{arith}
 use lib.Dec.{eqb}
 use lib.ListN.{length, getD, set, length-append}
 use lib.Seq.{getD-set-other}
 use Rattle.std.specs.declared.option.Option.{Option}
 use Rattle.std.specs.declared.option.Option.the-variants.{Some, None}
-use Rattle.std.proofs.shelf.Tests.{both-ways, false≢true, cases-eq, cases-bool, eqb-true, eqb-false, eq-eqb, ne-eqb, and-parts, and-from, not-true, cond-true, cond-false}
+use Rattle.std.proofs.shelf.Tests.{both-ways, cases-eq, cases-bool, eqb-true, eq-eqb, ne-eqb, and-parts, and-from, cond-true, cond-false}
 use Rattle.terms.specs.declared.modes.Mode.{Mode}
 use Rattle.protocol.specs.declared.holdings.Holding.{Holding}
 use Rattle.protocol.specs.declared.jobs.Job.{Job}
-use Rattle.terms.specs.declared.calls.Call.{Call}
-use Rattle.terms.specs.declared.calls.Call.the-variants.{Begin, Lock, Image, Commit, Abort}
+use Rattle.terms.specs.declared.calls.Call.the-variants.{Begin, Lock}
 use Rattle.protocol.proofs.Runs.{Runs}
 use Rattle.protocol.specs.History.{Rely, Ended, History, is-aborted, relies-on, has-ended, aborts, gains, ends, history-one}
 use Rattle.protocol.specs.Holdings.{makes, makers, spread}
-use Rattle.protocol.specs.Lists.{keep, any, each, In, is-some}
+use Rattle.protocol.specs.Lists.{keep, each, In, is-some}
 use Rattle.protocol.specs.Model.{Model}
 use Rattle.protocol.specs.Places.{has, single, join, without}
 use Rattle.protocol.specs.declared.jobs.Ending.{Ending}
-use Rattle.protocol.specs.declared.jobs.Ending.the-variants.{Committed}
-use Rattle.protocol.specs.declared.jobs.Ending.the-variants.{Aborted}
 use Rattle.protocol.proofs.Sets.{join-cases, less, none-in}
-use Rattle.protocol.proofs.Lists.{in-keep, keep-in, any-in, in-any, append-left, append-right, append-cases, map-in, each-in}
+use Rattle.protocol.proofs.Lists.{keep-in, any-in, in-any, append-left, append-right, append-cases, map-in, each-in}
 use Rattle.protocol.proofs.Reach.{spread-why}
 use Rattle.protocol.proofs.Plays.{keep-push-yes, keep-push-no}
-use Rattle.protocol.proofs.Makers.{Maker, makers-why}
+use Rattle.protocol.proofs.Makers.{makers-why}
 use Rattle.protocol.proofs.Shape.{Shape, runs-small, ended-runs}
 use Rattle.protocol.proofs.Relies.{Relies, reset}
 

@@ -1,18 +1,17 @@
 -- Who waits for whom, and how a lock, an image and an end change it.
 use mathlib.Core.Path.{_≡_, refl, sym, ap, _∙_, subst}
-use mathlib.Core.Bool.{Bool, true, false, not, cond, _&&_, _||_}
+use mathlib.Core.Bool.{Bool, true, false, not, cond, _&&_}
 use mathlib.Core.Logic.{_⊎_, inl, inr}
 use mathlib.Core.List.{List, [], _∷_, _++_, map}
-use Prim.Native.Nat.{ℕ, zero, suc, _+_, _≤_, _<_}
-use native.Mathlib.Omega.{arith}
+use Prim.Native.Nat.{ℕ}
 use lib.Dec.{eqb}
-use Rattle.std.proofs.shelf.Tests.{both-ways, eqb-true, eqb-false, eq-eqb, ne-eqb, and-parts, and-from, not-true, not-from-false, cases-bool}
+use Rattle.std.proofs.shelf.Tests.{eqb-true, eqb-false, eq-eqb, ne-eqb, and-parts, and-from, not-true}
 use Rattle.protocol.specs.declared.holdings.HoldingState.{HoldingState}
 use Rattle.protocol.specs.declared.holdings.HoldingState.the-variants.{Reading, Open, Turned}
 use Rattle.protocol.specs.declared.holdings.Holding.{Holding}
-use Rattle.protocol.specs.Holdings.{clash, holds, opened, reading, turn, turn-state, jobs-of, waits, new-waits}
+use Rattle.protocol.specs.Holdings.{clash, holds, reading, turn, turn-state, jobs-of, waits, new-waits}
 use Rattle.protocol.specs.Lists.{keep, any, In, Behind}
-use Rattle.protocol.specs.Places.{has, single, join, without}
+use Rattle.protocol.specs.Places.{has, single}
 use Rattle.protocol.specs.Waiting.{Waits-for}
 use Rattle.protocol.proofs.Sets.{none-in, join-left, join-right, join-cases, single-is, single-in, cond-in, in-cond}
 use Rattle.protocol.proofs.Lists.{any-in, in-any, behind-append, behind-last, push-cases, in-keep-behind, keep-behind, in-map-behind, map-behind}

@@ -1,7 +1,7 @@
 use native.Mathlib.Omega.{arith}
-use mathlib.Core.Path.{_≡_, sym, _∙_}
+use mathlib.Core.Path.{sym, _∙_}
 use Rattle.std.proofs.shelf.Bits.{one-shl}
-use Rattle.protocol.specs.Places.{single, placed}
+use Rattle.protocol.specs.Places.{single}
 use Rattle.protocol.proofs.PlaceLaws.{placed-none, placed-same, single-below}
 use Rattle.protocol.proofs.places.PlaceSet.only.Needs as need
 
