@@ -1,4 +1,4 @@
--- What is known where a call is accepted.
+-- What is known where a call is accepted: each reason to refuse it fails.
 use mathlib.Core.Path.{_≡_, refl}
 use mathlib.Core.Bool.{Bool, true, false, _&&_}
 use mathlib.Core.Logic.{inl}
@@ -23,6 +23,7 @@ use Rattle.protocol.specs.Step.{answer, refusals}
 use Rattle.terms.specs.Rule.{Rule}
 use Rattle.protocol.proofs.Lists.{any-in, none-passes, in-keep}
 
+-- where no refusal is answered, every test fails
 first-none : {A : Type 0} (ts : List (Bool × A)) → first ts ≡ None → All (λ (t : Bool × A). t .0 ≡ false) ts
 first-none [] e = tt
 first-none {A} (t ∷ ts) e = go (t .0) refl e (first-none ts)
@@ -31,27 +32,44 @@ first-none {A} (t ∷ ts) e = go (t .0) refl e (first-none ts)
     go true q e rec = let z : _≡_ {A = ℕ} 0 1 = cc in absurd (omega arith)
     go false q e rec = (q, rec e)
 
+-- of an accepted begin
 pub record Begins (m : Model) (p : ℕ) : Type 0 where
+  -- there is that place
   pub small : p < 16
+  -- no job runs there
   pub idle : Runs m p → ⊥
 
+-- of an accepted lock
 pub record Locks (m : Model) (p o : ℕ) (mode : Mode) : Type 0 where
+  -- the job runs
   pub runs : Runs m p
+  -- there is that object
   pub object : o < length (m .values)
+  -- the job does not hold the object
   pub new : (h : Holding) → In h (m .holdings) → h .job ≡ p → h .object ≡ o → ⊥
+  -- it holds fewer than eight
   pub few : holding-count m p < 8
+  -- nobody has the object open
   pub shut : (h : Holding) → In h (m .holdings) → h .object ≡ o → opened (h .state) ≡ true → ⊥
+  -- the job is not reached from what it will wait for
   pub ring : has (reach (waits (m .holdings)) (new-waits (m .holdings) (record { job = p; object = o; state = begins mode }))) p ≡ false
 
+-- of an accepted image
 pub record Images (m : Model) (p o : ℕ) : Type 0 where
   pub runs : Runs m p
+  -- there is that object
   pub object : o < length (m .values)
+  -- the job has the object open
   pub opens : (h : Holding) × In h (m .holdings) × (h .job ≡ p) × (h .object ≡ o) × (opened (h .state) ≡ true)
 
+-- of an accepted commit
 pub record Commits (m : Model) (p : ℕ) : Type 0 where
   pub runs : Runs m p
+  -- the job has an execution
   pub some : (e : Execution) × In e (m .executions) × (e .job ≡ p)
+  -- none of its holdings is open
   pub shut : (h : Holding) → In h (m .holdings) → h .job ≡ p → opened (h .state) ≡ true → ⊥
+  -- it waits for none
   pub free : waits (m .holdings) p ≡ 0
 
 small : (p : ℕ) → ltb 15 p ≡ false → p < 16

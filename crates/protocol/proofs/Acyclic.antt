@@ -1,4 +1,5 @@
--- No ring of waits: each job has a rank, and waits only for jobs of a lower one.
+-- No ring of waits: each job has a rank and waits only for jobs of a lower one. Every call keeps such ranks, and a job of least rank waits for none.
+-- Words: `Acyclic` of specs/Ranks.
 use mathlib.Core.Path.{_≡_, refl, sym, ap, _∙_, subst}
 use mathlib.Core.Bool.{Bool, true, false, cond}
 use mathlib.Core.Logic.{_⊎_, inl, inr}
@@ -19,6 +20,7 @@ use Rattle.protocol.proofs.Lists.{behind-in}
 use Rattle.protocol.proofs.Waits.{waits-why, waits-push}
 use Rattle.protocol.proofs.Reach.{reach-closed, reach-more}
 
+-- holdings are of jobs at the sixteen places
 abbrev pub Small : List Holding → Type 0
 Small hs = (h : Holding) → In h hs → h .job < 16
 
@@ -26,7 +28,7 @@ pub acyclic-none : Acyclic []
 unfolding waits
 acyclic-none = record { rank = λ k. 0; bound = 0; below = λ k. omega arith; falls = λ a k e. none-in k e }
 
--- fewer waits
+-- fewer waits keep the ranks
 pub acyclic-fewer : (hs gs : List Holding) → ((a k : ℕ) → has (waits gs a) k ≡ true → has (waits hs a) k ≡ true) → Acyclic hs → Acyclic gs
 acyclic-fewer hs gs f c = record { rank = c .rank; bound = c .bound; below = c .below; falls = λ a k e. c .falls a k (f a k e) }
 
@@ -77,7 +79,7 @@ acyclic-push hs h s ring c = record {
     new : (a k : ℕ) → a ≡ h .job → has T k ≡ true → rank′ k < rank′ a
     new a k e i = apart (has T a) (has T k) a k (ap (has T) e ∙ ring) i
 
--- ---- the ready question
+-- ---- a job that waits for none
 waits-below : (hs : List Holding) (p : ℕ) → Small hs → waits hs p < 2 ^ 16
 unfolding waits join single
 waits-below [] p s = pow-pos 16

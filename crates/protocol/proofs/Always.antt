@@ -1,4 +1,4 @@
--- What holds of a new book and is kept by each accepted call holds after every list of calls.
+-- What holds of a book and is kept by each accepted call holds after every list of calls; so the invariant does.
 use mathlib.Core.Path.{_≡_, refl}
 use mathlib.Core.List.{List, [], _∷_}
 use Prim.Native.Nat.{ℕ}

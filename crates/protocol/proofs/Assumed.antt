@@ -1,4 +1,5 @@
--- Chains of waits behind an assumption, and assumptions that conflict.
+-- Chains: a job that is assumed about is reached by waits that go on only through jobs assumed to commit. So who waits for none assumes nothing.
+-- Conflicts: two assumptions that cannot both come true.
 use mathlib.Core.Path.{_≡_, refl, sym, ap, _∙_, subst}
 use mathlib.Core.Bool.{Bool, true, false, not, _||_}
 use mathlib.Core.Logic.{_⊎_, inl, inr}
@@ -14,36 +15,39 @@ use Rattle.protocol.specs.Holdings.{waits, new-waits}
 use Rattle.protocol.specs.Places.{has, single, join}
 use Rattle.protocol.specs.Settling.{denied, survives, settled}
 use Rattle.protocol.specs.declared.jobs.Ending.{Ending}
-use Rattle.protocol.specs.declared.jobs.Ending.the-variants.{Committed}
-use Rattle.protocol.specs.declared.jobs.Ending.the-variants.{Aborted}
+use Rattle.protocol.specs.declared.jobs.Ending.the-variants.{Committed, Aborted}
 use Rattle.protocol.proofs.Sets.{none-in, join-left, join-right, join-cases, single-in, single-is, less, less-in}
 use Rattle.protocol.proofs.Waits.{waits-more, direct-waits, rest, rest-waits}
 
+-- a takes k to commit
 abbrev pub Com : Assumption → ℕ → Type 0
 Com a k = has (commits-of a) k ≡ true
 
+-- a takes k to abort
 abbrev pub Abo : Assumption → ℕ → Type 0
 Abo a k = has (aborts-of a) k ≡ true
 
+-- a takes k to end one way or the other
 abbrev pub Sum : Assumption → ℕ → Type 0
 Sum a k = Com a k ⊎ Abo a k
 
--- T has what those of a's commits wait for that are in T
+-- where T has a job that a takes to commit, T has all that this job waits for
 abbrev pub Closes : List Holding → Assumption → (ℕ → Bool) → Type 0
 Closes hs a T = (c q : ℕ) → Com a c → T c ≡ true → has (waits hs c) q ≡ true → T q ≡ true
 
--- from job j, by waits through a's commits, to each job of a: whatever has j's waits and is closed has all of a
+-- a is chained to job j: each test that has all that j waits for, and is so closed, has all of a
 pub Chained : List Holding → ℕ → Assumption → Type 0
 Chained hs j a = (T : ℕ → Bool) → ((q : ℕ) → has (waits hs j) q ≡ true → T q ≡ true) → Closes hs a T → (k : ℕ) → Sum a k → T k ≡ true
 
--- the same from a maker, which is among the commits
+-- the same for a version: each so closed test that has its maker has all of a
 pub Linked : List Holding → ℕ → Assumption → Type 0
 Linked hs m a = (T : ℕ → Bool) → T m ≡ true → Closes hs a T → (k : ℕ) → Sum a k → T k ≡ true
 
--- the same from the jobs for which a new holding h would wait
+-- the same for an offer: each so closed test that has all that the new holding h waits for has all of a
 pub Offered : List Holding → Holding → Assumption → Type 0
 Offered hs h a = (T : ℕ → Bool) → ((q : ℕ) → has (new-waits hs h) q ≡ true → T q ≡ true) → Closes hs a T → (k : ℕ) → Sum a k → T k ≡ true
 
+-- what both take
 abbrev pub joined : Assumption → Assumption → Assumption
 joined a b = assume (join (commits-of a) (commits-of b)) (join (aborts-of a) (aborts-of b))
 
@@ -154,7 +158,7 @@ unfolding Linked
 free-own hs j a c none k s =
     eqb-true k j (c (λ q. eqb q j) (eq-eqb j j refl) (λ d q i t e. none-in q (ap (λ n. has n q) (sym (ap (waits hs) (eqb-true d j t) ∙ none)) ∙ e)) k s)
 
--- where the waits have no ring, no job is in its own assumption: R q says that q's rank is lower than j's
+-- where the waits have no ring, no job assumes anything of itself: all that it assumes about is of lower rank
 pub not-own : (hs : List Holding) (rank : ℕ → ℕ) → ((a k : ℕ) → has (waits hs a) k ≡ true → rank k < rank a) → (j : ℕ) (a : Assumption) → Chained hs j a → Sum a j → ⊥
 unfolding Chained
 not-own hs rank falls j a c i =
@@ -163,9 +167,11 @@ not-own hs rank falls j a c i =
     omega arith
 
 -- ---- conflict
+-- some job is taken to commit by one and to abort by the other
 abbrev pub Conflict : Assumption → Assumption → Type 0
 Conflict a b = (k : ℕ) × ((Com a k × Abo b k) ⊎ (Abo a k × Com b k))
 
+-- b takes all that a takes
 pub record Within (a b : Assumption) : Type 0 where
   pub onC : (k : ℕ) → Com a k → Com b k
   pub onA : (k : ℕ) → Abo a k → Abo b k
@@ -173,7 +179,7 @@ pub record Within (a b : Assumption) : Type 0 where
 pub conflict-within : (a b c d : Assumption) → Within a c → Within b d → Conflict a b → Conflict c d
 conflict-within a b c d f g x = (x .0, elim (x .1) [ inl y ↦ inl (f .onC _ (y .0), g .onA _ (y .1)) | inr y ↦ inr (f .onA _ (y .0), g .onC _ (y .1)) ])
 
--- two that survive the end of k conflict still
+-- two that survive the end of k still conflict
 pub conflict-settled : (w : Ending) (k : ℕ) (a b : Assumption) → survives w k a ≡ true → survives w k b ≡ true → Conflict a b → Conflict (settled k a) (settled k b)
 conflict-settled w k a b s t x = (x .0, go w s t (x .1))
   where
@@ -190,6 +196,7 @@ within-settled k a b f = record {
   onA = λ q e. let l = less _ k q e in less-in _ k q (f .onA q (l .0)) (l .1);
 }
 
+-- what is within a survivor survives
 pub within-survives : (w : Ending) (k : ℕ) (a b : Assumption) → Within a b → survives w k b ≡ true → survives w k a ≡ true
 within-survives w k a b f s = elim (cases-bool (has (denied w a) k)) [ inl e ↦ absurd (both-ways _ (not-true _ s) (go w e)) | inr e ↦ ap not e ]
   where

@@ -1,4 +1,5 @@
--- Each assumption is is-kept, has a chain of waits behind it, and conflicts with the others of its job: kept by every call.
+-- Of each execution and version: no job is taken both ways, the assumption is chained, and it conflicts with those of its siblings.
+-- Every call keeps it. Words: `Chained`, `Linked`, `Conflict`.
 use mathlib.Core.Path.{_≡_, refl, sym, ap, _∙_, subst}
 use mathlib.Core.Bool.{true, not}
 use mathlib.Core.Logic.{inl, inr}
@@ -24,8 +25,7 @@ use Rattle.protocol.specs.Step.{next}
 use Rattle.terms.specs.Rule.{Rule}
 use Rattle.protocol.specs.declared.assumptions.Offer.{Offer}
 use Rattle.protocol.specs.declared.jobs.Ending.{Ending}
-use Rattle.protocol.specs.declared.jobs.Ending.the-variants.{Committed}
-use Rattle.protocol.specs.declared.jobs.Ending.the-variants.{Aborted}
+use Rattle.protocol.specs.declared.jobs.Ending.the-variants.{Committed, Aborted}
 use Rattle.protocol.proofs.PlaceLaws.{disjoint-apart}
 use Rattle.protocol.proofs.Sets.{none-in, join-left, join-right, join-cases, single-is, single-in, less, less-in}
 use Rattle.protocol.proofs.Lists.{in-keep, over-keep, over-append, over-push, over-map, all-from, pairs-append, pairs-push, pairs-keep, pairs-map, pairs-each, behind-two}
@@ -36,22 +36,32 @@ use Rattle.protocol.proofs.Accepted.{Begins, Locks, Images}
 use Rattle.protocol.proofs.Makers.{Maker, makers-why, why-makers, makers-direct, after-makers, after-either, opened-turned}
 use Rattle.protocol.proofs.Shape.{Shape, over-paired, over-offers}
 
+-- a takes no job both ways
 abbrev Sep : Assumption → Type 0
 Sep a = (k : ℕ) → Com a k → Abo a k → ⊥
 
+-- two executions of one job conflict
 abbrev pub ApartE : Execution → Execution → Type 0
 ApartE e f = e .job ≡ f .job → Conflict (e .assumption) (f .assumption)
 
+-- two versions of one object by one maker conflict
 abbrev pub ApartV : Version → Version → Type 0
 ApartV u v = u .object ≡ v .object → u .maker ≡ v .maker → Conflict (u .assumption) (v .assumption)
 
 pub record Assumes (m : Model) : Type 0 where
+  -- sound: an execution takes no job both ways
   pub e-sep : (e : Execution) → In e (m .executions) → Sep (e .assumption)
+  -- nor does a version
   pub v-sep : (v : Version) → In v (m .versions) → Sep (v .assumption)
+  -- chained: from its job, by waits through jobs taken to commit, to all that an execution assumes about
   pub e-chain : (e : Execution) → In e (m .executions) → Chained (m .holdings) (e .job) (e .assumption)
+  -- and from its maker to all that a version assumes about
   pub v-chain : (v : Version) → In v (m .versions) → Linked (m .holdings) (v .maker) (v .assumption)
+  -- a version takes its maker to commit
   pub own-com : (v : Version) → In v (m .versions) → Com (v .assumption) (v .maker)
+  -- apart: a job's executions conflict, each with each
   pub e-apart : Pairs ApartE (m .executions)
+  -- and so do one maker's versions of one object
   pub v-apart : Pairs ApartV (m .versions)
 
 pub assumes-new : (r l : ℕ) (values : List ℕ) → Assumes (new r l values)
@@ -101,6 +111,7 @@ module _ (r : Rule) (m : Model) (p o : ℕ) (mode : Mode) (b : Locks m p o mode)
   unfolding new-holding
   pair-chain e i j y l = chained-pair (m .holdings) new-holding (e .assumption) (assumed y) (subst (λ q. Chained (m .holdings) q (e .assumption)) j (x .e-chain e i)) (offered y l)
 
+  -- two offers conflict
   OfferApart : Offer → Offer → Type 0
   OfferApart y z = Conflict (assumed y) (assumed z)
 
@@ -169,7 +180,7 @@ module _ (r : Rule) (m : Model) (p o : ℕ) (mode : Mode) (b : Locks m p o mode)
 
 -- ---- an image
 module _ (r : Rule) (m : Model) (p o : ℕ) (b : Images m p o) (s : Shape m) (c : Acyclic (m .holdings)) (x : Assumes m) where
-  -- no version-by of o by p yet
+  -- p has made no version of o yet
   first-version : (v : Version) → In v (m .versions) → v .object ≡ o → v .maker ≡ p → ⊥
   first-version v i e f =
       let w = s .made-by v i in
@@ -210,7 +221,7 @@ module _ (r : Rule) (m : Model) (p o : ℕ) (b : Images m p o) (s : Shape m) (c 
 
 -- ---- an end
 module _ (w : Ending) (k : ℕ) (values : List ℕ) (m : Model) (x : Assumes m) where
-  -- a Committed job waits for none
+  -- a job that commits waits for none
   abbrev pub Free : Ending → Type 0
   Free Committed = waits (m .holdings) k ≡ 0
   Free Aborted = Unit {0}

@@ -1,4 +1,4 @@
--- A job that turned an object before another locked it.
+-- A maker came before another holder of the same object: its turned holding stands before the other's. How calls change this.
 use mathlib.Core.Path.{_≡_, refl, sym, ap, _∙_, subst}
 use mathlib.Core.Bool.{Bool, true, false, not, _&&_}
 use mathlib.Core.Logic.{_⊎_, inl, inr}
@@ -16,6 +16,7 @@ use Rattle.protocol.proofs.Lists.{behind-in, behind-two, behind-append, behind
 use Rattle.protocol.proofs.Waits.{why-waits, rest}
 use Rattle.protocol.proofs.Makers.{Maker, reading-turned, why-after}
 
+-- q turned o before j locked it
 pub record Before (hs : List Holding) (o q j : ℕ) : Type 0 where
   pub earlier : Holding
   pub later : Holding
@@ -26,9 +27,11 @@ pub record Before (hs : List Holding) (o q j : ℕ) : Type 0 where
   pub same : later .object ≡ o
   pub turns : turned (earlier .state) ≡ true
 
+-- who was before is a maker
 pub before-maker : (hs : List Holding) (o q j : ℕ) → Before hs o q j → Maker hs o q
 before-maker hs o q j b = record { holding = b .earlier; there = behind-in hs _ _ (b .order) .0; job = b .of; object = b .there; turned = b .turns }
 
+-- and is waited for
 pub before-waits : (hs : List Holding) (o q j : ℕ) → (q ≡ j → ⊥) → Before hs o q j → has (waits hs j) q ≡ true
 before-waits hs o q j n b =
     why-waits hs j q (record {
@@ -41,7 +44,7 @@ before-waits hs o q j n b =
       why = and-from _ _ (eq-eqb _ _ (b .there ∙ sym (b .same))) (ap (λ x. not (x && reading (b .later .state))) (reading-turned _ (b .turns)));
     })
 
--- of a maker and another job that holds the object, one was before, or the other waits for it
+-- a maker q was before another job j that holds the object, or q waits for j
 pub before-either : (hs : List Holding) (o q j : ℕ) (h : Holding) → (q ≡ j → ⊥) → Maker hs o q → In h hs → h .job ≡ j → h .object ≡ o → Before hs o q j ⊎ (has (waits hs q) j ≡ true)
 before-either hs o q j h n a i e f =
     elim (behind-two hs (a .holding) h (a .there) i) [
@@ -65,7 +68,7 @@ before-either hs o q j h n a i e f =
     not-both true false e = refl
     not-both false y e = refl
 
--- the makers later-makers m are those that m was before
+-- a maker that m was before is a later maker than m
 pub after-before : (hs : List Holding) (o m q : ℕ) → Before hs o m q → Maker hs o q → ((g h : Holding) → Behind g h hs → g .job ≡ h .job → g .object ≡ h .object → ⊥) → has (later-makers o m hs) q ≡ true
 after-before hs o m q b k once = subst (λ x. has (later-makers o m hs) x ≡ true) (b .by)
     (why-after hs o m (b .earlier) (b .later) (b .order) (and-from _ _ (eq-eqb _ _ (b .of)) (eq-eqb _ _ (b .there))) (b .same) (subst (λ h. turned (h .state) ≡ true) same-one (k .turned)))

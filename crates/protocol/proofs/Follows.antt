@@ -1,4 +1,5 @@
--- The book follows the plain run: what each execution met, worked out and made. The statement, a new book, a begin.
+-- The book follows the plain run: what each execution met, worked out and made is what the job's own calls give on the values met.
+-- Here the statement, a new book and a begin. Words: `play` of specs/PlainRun, `Before`.
 use mathlib.Core.Path.{_≡_, refl, sym, ap, _∙_, subst}
 use mathlib.Core.Bool.{true}
 use mathlib.Core.Logic.{_⊎_, inl, inr}
@@ -31,10 +32,11 @@ use Rattle.protocol.proofs.Accepted.{Begins}
 use Rattle.protocol.proofs.Before.{Before}
 use Rattle.protocol.proofs.Shape.{Shape}
 
+-- the value that e met at object o
 abbrev pub met-at : List Holding → Execution → ℕ → ℕ
 met-at hs e o = getD (e .met) (position (e .job) o hs) 0
 
--- ys has n values and, is-at each object that e's job holds, the value that e met
+-- ys has n values and, at each object that e's job holds, the value that e met
 pub record Agrees (hs : List Holding) (n : ℕ) (e : Execution) (ys : List ℕ) : Type 0 where
   pub long : length ys ≡ n
   pub meets : (h : Holding) → In h hs → h .job ≡ e .job → getD ys (h .object) 0 ≡ met-at hs e (h .object)
@@ -64,19 +66,28 @@ pub record Made (r : Rule) (cs : List Call) (hs : List Holding) (vs : List Versi
   pub onA : (k : ℕ) → Abo (version .assumption) k → Abo (e .assumption) k
   pub value : (ys : List ℕ) → Agrees hs n e ys → getD (play r (fresh ys) cs .values) o 0 ≡ version .value
 
+-- job p has turned o
 abbrev pub Turns : List Holding → ℕ → ℕ → Type 0
 Turns hs p o = (h : Holding) × In h hs × (h .job ≡ p) × (h .object ≡ o) × (turned (h .state) ≡ true)
 
+-- the accepted calls of the job at place p
 abbrev pub ops : Plain → ℕ → List Call
 ops s p = keep (is-at p) (s .pending)
 
 pub record Follows (r : Rule) (m : Model) (s : Plain) : Type 0 where
+  -- plain: the stored values are those of the plain run
   pub values : m .values ≡ s .values
+  -- pending calls are of jobs that run
   pub runs : (c : Call) → In c (s .pending) → Runs m (place-of c)
+  -- a job's calls begin with its kind and argument
   pub kind : (p : ℕ) → Runs m p → (ys : List ℕ) → (play r (fresh ys) (ops s p) .kind ≡ kind-of (job-at m p)) × (play r (fresh ys) (ops s p) .argument ≡ argument-of (job-at m p))
+  -- they leave alone what the job has not turned
   pub others : (p o : ℕ) → (Turns (m .holdings) p o → ⊥) → (ys : List ℕ) → getD (play r (fresh ys) (ops s p) .values) o 0 ≡ getD ys o 0
+  -- work: on the values that e met they give e's working value
   pub work : (e : Execution) → In e (m .executions) → (ys : List ℕ) → Agrees (m .holdings) (length (m .values)) e ys → play r (fresh ys) (ops s (e .job)) .work ≡ e .work
+  -- made: and, at each object that the job has turned, the value of a version that e goes with
   pub made : (e : Execution) → In e (m .executions) → (o : ℕ) → Turns (m .holdings) (e .job) o → Made r (ops s (e .job)) (m .holdings) (m .versions) (length (m .values)) e o
+  -- met: at each object that the job holds, e met the stored value or a version, and takes each maker in between to abort
   pub met : (e : Execution) → In e (m .executions) → (h : Holding) → In h (m .holdings) → h .job ≡ e .job
       → FromStore (m .holdings) (m .values) e (h .object) ⊎ FromVersion (m .holdings) (m .versions) e (h .object)
 

@@ -1,4 +1,4 @@
--- The end of a job keeps the book with the plain run.
+-- The end of a job keeps the book with the plain run: survivors met what is still there, and a commit writes what the plain run of the job writes.
 use mathlib.Core.Path.{_≡_, refl, sym, ap, _∙_, subst}
 use mathlib.Core.Bool.{Bool, true, false, not, _&&_}
 use mathlib.Core.Logic.{_⊎_, inl, inr}
@@ -28,8 +28,7 @@ use Rattle.protocol.specs.Settling.{denied, survives, settled-execution, settl
 use Rattle.protocol.specs.Step.{next}
 use Rattle.terms.specs.Rule.{Rule}
 use Rattle.protocol.specs.declared.jobs.Ending.{Ending}
-use Rattle.protocol.specs.declared.jobs.Ending.the-variants.{Committed}
-use Rattle.protocol.specs.declared.jobs.Ending.the-variants.{Aborted}
+use Rattle.protocol.specs.declared.jobs.Ending.the-variants.{Committed, Aborted}
 use Rattle.protocol.proofs.Sets.{none-in, less, less-in}
 use Rattle.protocol.proofs.Lists.{in-keep, keep-in, over-keep, map-in, over-map, any-in, in-any, pairs-two}
 use Rattle.protocol.proofs.Waits.{rest}
@@ -41,7 +40,7 @@ use Rattle.protocol.proofs.Shape.{Shape, runs-ended, ended-runs, runs-small, l
 use Rattle.protocol.proofs.Assumes.{Assumes, ApartV}
 use Rattle.protocol.proofs.Follows.{met-at, Agrees, FromStore, FromVersion, Made, Turns, ops, Follows}
 
--- the calls of another job, and of the ended one
+-- the calls of another job stay, those of the ended one are gone
 pub ops-other : (cs : List Call) (k q : ℕ) → (q ≡ k → ⊥) → keep (is-at q) (keep (λ c. not (is-at k c)) cs) ≡ keep (is-at q) cs
 ops-other cs k q n = keep-keep (is-at q) (λ c. not (is-at k c)) cs (λ c t. ap not (ne-eqb _ _ (λ e. n (sym (eqb-true _ _ t) ∙ e))))
 
@@ -203,6 +202,7 @@ module _ (r : Rule) (m : Model) (s : Plain) (k : ℕ) (b : Commits m k) (sh : Sh
   Test : ℕ → Holding → Bool
   Test o h = holds k o h && turned (h .state)
 
+  -- what is written is what the plain run of k's calls leaves
   same-values : new-values ≡ play r (fresh (m .values)) (ops s k) .values
   unfolding Test
   same-values =
@@ -222,6 +222,7 @@ module _ (r : Rule) (m : Model) (s : Plain) (k : ℕ) (b : Commits m k) (sh : Sh
           let none : Turns (m .holdings) k o → ⊥ = λ t. both-ways _ a (in-any (Test o) (m .holdings) (t .0) (t .1) (and-from _ _ (and-from _ _ (eq-eqb _ _ (t .2)) (eq-eqb _ _ (t .3))) (t .4))) in
           written-other k o (m .versions) (m .holdings) (m .values) (λ h i j q t. none (h, i, j, q, t)) ∙ sym (f .others k o none (m .values))
 
+  -- a survivor met the stored value or a version of k that is now stored, or a version that survives
   met-commit : (e : Execution) → (e .job ≡ k → ⊥) → survives Committed k (e .assumption) ≡ true → (h : Holding) → In h (m .holdings) → h .job ≡ e .job
       → FromStore (m .holdings) (m .values) e (h .object) ⊎ FromVersion (m .holdings) (m .versions) e (h .object)
       → FromStore (rest k (m .holdings)) new-values (settled-execution k e) (h .object) ⊎ FromVersion (rest k (m .holdings)) (settle Committed k new-values m .versions) (settled-execution k e) (h .object)

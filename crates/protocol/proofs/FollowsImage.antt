@@ -1,4 +1,4 @@
--- An image keeps the book with the plain run.
+-- An image keeps the book with the plain run: each new version has the value that the job's calls now give.
 use mathlib.Core.Path.{_≡_, refl, sym, ap, _∙_, subst₂}
 use mathlib.Core.Bool.{Bool, true, false}
 use mathlib.Core.Logic.{_⊎_, inl, inr}

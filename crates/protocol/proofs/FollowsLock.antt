@@ -1,4 +1,4 @@
--- A lock keeps the book with the plain run.
+-- A lock keeps the book with the plain run: each pair met what it was offered, and its working value is one take further.
 use mathlib.Core.Path.{_≡_, refl, sym, ap, _∙_, subst}
 use mathlib.Core.Bool.{true, not}
 use mathlib.Core.Logic.{_⊎_, inl, inr}
@@ -76,7 +76,7 @@ module _ (r : Rule) (m : Model) (s : Plain) (p o : ℕ) (mode : Mode) (b : Locks
   old-holding : (e : Execution) → (e .job ≡ p → ⊥) → (h : Holding) → In h hs′ → h .job ≡ e .job → In h hs
   old-holding e d h i q = elim (append-cases hs (h′ ∷ []) h i) [ inl j ↦ j | inr j ↦ elim j [ inl z ↦ absurd (d (sym q ∙ sym (ap (λ g. g .job) z))) | inr z ↦ absurd z ] ]
 
-  -- Before, to a job other than p
+  -- no maker has come before a job other than p
   before-old : (x q j : ℕ) → (j ≡ p → ⊥) → Before hs′ x q j → Before hs x q j
   before-old x q j d c = elim (before-push hs h′ x q j c) [ inl l ↦ l | inr l ↦ absurd (d (sym (l .0))) ]
 
@@ -120,9 +120,6 @@ module _ (r : Rule) (m : Model) (s : Plain) (p o : ℕ) (mode : Mode) (b : Locks
     agrees-pair : (ys : List ℕ) → Agrees hs′ n e′ ys → Agrees hs n e ys
     agrees-pair ys g = record { long = g .long; meets = λ h i q. g .meets h (append-left hs _ h i) q ∙ old-met h i q }
 
-    mine : (k : ℕ) → Com (e .assumption) k → Com (e′ .assumption) k
-    mine k c = join-left _ _ k c
-
     push : (ys : List ℕ) → play r (fresh ys) (keep (is-at (e .job)) (s .pending ++ lock ∷ [])) ≡ play-one r (play r (fresh ys) (ops s (e .job))) lock
     push ys = push-own r (s .pending) lock (e .job) (sym je) ys
 
@@ -155,7 +152,7 @@ module _ (r : Rule) (m : Model) (s : Plain) (p o : ℕ) (mode : Mode) (b : Locks
     before-pair : (x q : ℕ) (h : Holding) → In h hs → h .job ≡ e .job → h .object ≡ x → Before hs′ x q (e .job) → Before hs x q (e .job)
     before-pair x q h i j g c = elim (before-push hs h′ x q (e .job) c) [ inl l ↦ l | inr l ↦ absurd (b .new h i (j ∙ je) (g ∙ sym (l .1))) ]
 
-    -- what it met is-at the objects holding-count before
+    -- what it met at the objects held before
     met-pair : (h : Holding) → In h hs → h .job ≡ e .job → FromStore hs (m .values) e (h .object) ⊎ FromVersion hs (m .versions) e (h .object)
         → FromStore hs′ (m .values) e′ (h .object) ⊎ FromVersion hs′ (m .versions) e′ (h .object)
     met-pair h i j (inl w) = inl (record { value = old-met h i j ∙ w .value; before = λ q c. join-left _ _ q (w .before q (before-pair _ q h i j refl c)) })
@@ -172,7 +169,7 @@ module _ (r : Rule) (m : Model) (s : Plain) (p o : ℕ) (mode : Mode) (b : Locks
       ];
     })
 
-  -- what it met is-at o
+  -- what it met at o
   met-here : (e : Execution) (ie : In e (m .executions)) (je : e .job ≡ p) (y : Offer) (iy : In y (offers m o)) → FromStore hs′ (m .values) (e′ e ie je y iy) o ⊎ FromVersion hs′ (m .versions) (e′ e ie je y iy) o
   met-here e ie je y iy = over-offers (λ z. z ≡ y → FromStore hs′ (m .values) (e′ e ie je y iy) o ⊎ FromVersion hs′ (m .versions) (e′ e ie je y iy) o) m o
       (λ same. inl (record {

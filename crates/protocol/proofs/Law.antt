@@ -1,4 +1,4 @@
--- The law of the book.
+-- The law of the book, from the invariant beside the plain run and the history.
 use mathlib.Core.Path.{_≡_, refl, sym, ap, _∙_, subst}
 use mathlib.Core.Bool.{true, false, cond}
 use mathlib.Core.Logic.{inl, inr}
@@ -28,8 +28,7 @@ use Rattle.protocol.specs.PlainRun.{Plain, plain-one, plain}
 use Rattle.protocol.specs.Settling.{settle}
 use Rattle.protocol.specs.Step.{next, answer, step, run}
 use Rattle.terms.specs.Rule.{Rule}
-use Rattle.protocol.specs.declared.jobs.Ending.the-variants.{Committed}
-use Rattle.protocol.specs.declared.jobs.Ending.the-variants.{Aborted}
+use Rattle.protocol.specs.declared.jobs.Ending.the-variants.{Committed, Aborted}
 use Rattle.protocol.proofs.Assumed.{free-none}
 use Rattle.protocol.proofs.Sets.{none-in}
 use Rattle.protocol.proofs.Shape.{Shape, runs-small}
@@ -42,12 +41,16 @@ use Rattle.protocol.proofs.RelyEnd.{relies-settle}
 use Rattle.protocol.proofs.Tracks.{Tracks, all-ended, tracks-begin, tracks-lock, tracks-end}
 use Rattle.protocol.proofs.LawA.{Inv, inv-new, inv-next, ready}
 
--- the invariant, with the history by places
+-- the book m, the plain run s and the history h of the same past
 pub record Sound (r : Rule) (m : Model) (s : Plain) (h : History) : Type 0 where
   pub inv : Inv r m s
+  -- the history has the book's holdings
   pub holdings : h .holdings ≡ m .holdings
+  -- and its running jobs
   pub running : (p : ℕ) → h .runs p ≡ is-some (job-at m p)
+  -- the running jobs on which each relies
   pub rel : ℕ → ℕ
+  -- and how many on which it relied have aborted
   pub gone : ℕ → ℕ
   pub relies : Relies m rel gone
   pub tracks : Tracks (m .jobs) h rel gone
@@ -59,15 +62,14 @@ set-runs js p q j l = elim (cases-eq q p) [
   | inr n ↦ ap is-some (getD-set-other js p q j None n) ∙ sym (cond-false (eqb q p) _ _ (ne-eqb q p n))
 ]
 
+-- no job runs in a new book
 none-at : (n p : ℕ) → is-some {A = Job} (getD (replicate n None) p None) ≡ false
 none-at zero p = refl
 none-at (suc n) zero = refl
 none-at (suc n) (suc p) = none-at n p
 
 none-runs : (n p : ℕ) → is-some {A = Job} (getD (replicate n None) p None) ≡ true → ⊥
-none-runs zero p h = false≢true h
-none-runs (suc n) zero h = false≢true h
-none-runs (suc n) (suc p) h = none-runs n p h
+none-runs n p h = false≢true (sym (none-at n p) ∙ h)
 
 sound-new : (r : Rule) (x l : ℕ) (first : List ℕ) → Sound r (new x l first) (record { values = first; pending = [] }) blank
 unfolding new has-ended
@@ -84,6 +86,7 @@ sound-new r x l first = record {
 ended-running : (m : Model) (h : History) (k : ℕ) → Runs m k → Shape m → ((q : ℕ) → h .runs q ≡ is-some (job-at m q)) → (q : ℕ) → cond (eqb q k) false (h .runs q) ≡ is-some (getD (set (m .jobs) k None) q None)
 ended-running m h k run sh f q = ap (cond (eqb q k) false) (f q) ∙ sym (set-runs (m .jobs) k q None (omega (arith, runs-small m sh k run, sh .places)))
 
+-- an accepted call keeps it
 sound-next : (r : Rule) (m : Model) (s : Plain) (h : History) (c : Call) → answer r m c ≡ None → Sound r m s h → Sound r (next r m c) (plain-one r s c) (history-one h c)
 unfolding next settle aborts
 sound-next r m s h (Begin p k a) e i =
@@ -147,6 +150,7 @@ sound-next r m s h (Abort p) e i =
       tracks = tracks-end m h (i .rel) (i .gone) Aborted p b (i .inv .shape) (i .tracks);
     }
 
+-- and so does every list of calls
 sound-run : (r : Rule) (m : Model) (s : Plain) (h : History) (cs : List Call) → Sound r m s h → Sound r (run r m cs) (plain r s (past r m cs)) (history h (past r m cs))
 unfolding run past plain history step
 sound-run r m s h [] i = i
@@ -159,6 +163,7 @@ sound-run r m s h (c ∷ cs) i = go (answer r m c) refl (λ m s h. sound-run r m
     go None e rec = rec (next r m c) (plain-one r s c) (history-one h c) (sound-next r m s h c e i)
     go (Some x) e rec = rec m s h i
 
+-- no call changes the robustness
 same-robustness : (r : Rule) (m : Model) (cs : List Call) → run r m cs .robustness ≡ m .robustness
 unfolding run step next settle
 same-robustness r m [] = refl

@@ -1,4 +1,4 @@
--- After every past the values are those of the plain run, and a job that runs leads to one that waits for none.
+-- The invariant of the book beside the plain run, kept by every call; and from it a running job that waits for none.
 use mathlib.Core.Path.{_≡_, refl, sym, subst}
 use mathlib.Core.Logic.{inl, inr}
 use mathlib.Core.List.{List, []}
@@ -14,8 +14,7 @@ use Rattle.protocol.specs.PlainRun.{Plain, plain-one}
 use Rattle.protocol.specs.Settling.{settle}
 use Rattle.protocol.specs.Step.{next, answer}
 use Rattle.terms.specs.Rule.{Rule}
-use Rattle.protocol.specs.declared.jobs.Ending.the-variants.{Committed}
-use Rattle.protocol.specs.declared.jobs.Ending.the-variants.{Aborted}
+use Rattle.protocol.specs.declared.jobs.Ending.the-variants.{Committed, Aborted}
 use Rattle.protocol.proofs.Waits.{waits-turn, waits-rest}
 use Rattle.protocol.specs.Ranks.{Acyclic}
 use Rattle.protocol.proofs.Acyclic.{Small, acyclic-none, acyclic-fewer, acyclic-push, free}
@@ -27,19 +26,26 @@ use Rattle.protocol.proofs.FollowsLock.{follows-lock}
 use Rattle.protocol.proofs.FollowsImage.{follows-image}
 use Rattle.protocol.proofs.FollowsEnd.{follows-abort, follows-commit}
 
+-- the book m, and the plain run s of the same past
 pub record Inv (r : Rule) (m : Model) (s : Plain) : Type 0 where
+  -- the records fit together
   pub shape : Shape m
+  -- acyclic: no ring of waits
   pub acyclic : Acyclic (m .holdings)
+  -- sound, chained and apart
   pub assumes : Assumes m
+  -- plain, work, made and met
   pub follows : Follows r m s
 
 pub inv-new : (r : Rule) (x l : ℕ) (values : List ℕ) → Inv r (new x l values) (record { values = values; pending = [] })
 unfolding new
 inv-new r x l values = record { shape = shape-new x l values; acyclic = acyclic-none; assumes = assumes-new x l values; follows = follows-new r x l values }
 
+-- holdings are of jobs at the sixteen places
 pub small : (m : Model) → Shape m → Small (m .holdings)
 small m s h i = runs-small m s (h .job) (s .held-by h i .0)
 
+-- an accepted call keeps it
 pub inv-next : (r : Rule) (m : Model) (s : Plain) (c : Call) → answer r m c ≡ None → Inv r m s → Inv r (next r m c) (plain-one r s c)
 unfolding next settle
 inv-next r m s (Begin p k a) e i =
@@ -77,6 +83,7 @@ inv-next r m s (Abort p) e i =
       follows = follows-abort r m s p (aborts-ok r m p e) (i .shape) (i .assumes) (i .follows);
     }
 
+-- where a job runs, some running job waits for none
 pub ready : (r : Rule) (m : Model) (s : Plain) → Inv r m s → (p : ℕ) → Runs m p → (q : ℕ) × Runs m q × (waits (m .holdings) q ≡ 0)
 ready r m s i p h =
     let f = free (m .holdings) (small m (i .shape)) (i .acyclic) (suc (i .acyclic .rank p)) p (omega arith) in

@@ -1,4 +1,5 @@
--- The makers of an object, and those later-makers one of them.
+-- The makers of an object, and those that locked it later than one of them.
+-- Words: `makers`, `later-makers` of specs/Holdings.
 use mathlib.Core.Path.{_≡_, refl, sym, ap, _∙_, subst}
 use mathlib.Core.Bool.{Bool, true, false, not, _&&_}
 use mathlib.Core.Logic.{_⊎_, inl, inr}
@@ -15,7 +16,7 @@ use Rattle.protocol.proofs.Sets.{none-in}
 use Rattle.protocol.proofs.Lists.{behind-in, behind-two}
 use Rattle.protocol.proofs.Waits.{jobs-in, in-jobs}
 
--- a maker of o
+-- q is a maker of o: it has a turned holding of it
 pub record Maker (hs : List Holding) (o q : ℕ) : Type 0 where
   pub holding : Holding
   pub there : In holding hs
@@ -23,6 +24,7 @@ pub record Maker (hs : List Holding) (o q : ℕ) : Type 0 where
   pub object : holding .object ≡ o
   pub turned : turned (holding .state) ≡ true
 
+-- who is in the set is a maker, and the other way round
 pub makers-why : (hs : List Holding) (o q : ℕ) → has (makers o hs) q ≡ true → Maker hs o q
 unfolding makers
 makers-why hs o q e =
@@ -53,7 +55,7 @@ makers-direct hs h q n e =
     (and-from _ _ (ap not (ne-eqb _ _ (λ s. n (sym (k .job) ∙ s))))
     (and-from _ _ (eq-eqb _ _ (k .object)) (ap (λ b. not (b && reading (h .state))) (reading-turned _ (k .turned))))))
 
--- those later-makers k are makers, whose holding is behind k's
+-- a maker later than k has its holding behind k's
 pub after-why : (hs : List Holding) (o k q : ℕ) → has (later-makers o k hs) q ≡ true
     → (g : Holding) × (h : Holding) × Behind g h hs × (holds k o g ≡ true) × (h .job ≡ q) × (h .object ≡ o) × (turned (h .state) ≡ true)
 unfolding later-makers
@@ -66,7 +68,7 @@ after-why (g ∷ hs) o k q e = go (holds k o g) refl e (after-why hs o k q)
     go true b e rec = let m = makers-why hs o q e in (g, m .holding, inl (refl, m .there), b, m .job, m .object, m .turned)
     go false b e rec = let r = rec e in (r .0, r .1, inr (r .2), r .3, r .4, r .5, r .6)
 
--- a maker whose holding is behind one of k's is later-makers k
+-- and a maker whose holding is behind k's is later than k
 pub why-after : (hs : List Holding) (o k : ℕ) (g h : Holding) → Behind g h hs → holds k o g ≡ true → h .object ≡ o → turned (h .state) ≡ true → has (later-makers o k hs) (h .job) ≡ true
 unfolding later-makers
 why-after [] o k g h b e f t = absurd b
@@ -86,7 +88,7 @@ after-makers hs o k q e =
     let w = after-why hs o k q e in
     why-makers hs o q (record { holding = w .1; there = behind-in hs _ _ (w .2) .1; job = w .4; object = w .5; turned = w .6 })
 
--- of two makers one is later-makers the other
+-- of two makers one is later than the other
 pub after-either : (hs : List Holding) (o k q : ℕ) → (k ≡ q → ⊥) → Maker hs o k → Maker hs o q → (has (later-makers o k hs) q ≡ true) ⊎ (has (later-makers o q hs) k ≡ true)
 after-either hs o k q n a b =
     elim (behind-two hs (a .holding) (b .holding) (a .there) (b .there)) [

@@ -1,4 +1,4 @@
--- The plain run of one job's calls, the place of an object among those that a job holds, and what a commit writes.
+-- The plain run of one job's calls, where an object stands among those that a job holds, and what a commit writes.
 use mathlib.Core.Path.{_≡_, refl, sym, ap, _∙_, subst}
 use mathlib.Core.Bool.{Bool, true, false, not, cond, _&&_}
 use mathlib.Core.Logic.{_⊎_, inl, inr}
@@ -157,6 +157,7 @@ index-rest k p o (x ∷ hs) n = go (eqb (x .job) k) (eqb (x .job) p) refl refl (
     go false c d q r = ap (λ z. body z (position p o (rest k hs))) q ∙ ap (body c) r
 
 -- ---- what a commit writes
+-- where p's versions of o all have the value x, and there is one, x is written
 pub made-is : (p o x : ℕ) (vs : List Version) (v : Version) (d : ℕ) → In v vs → v .maker ≡ p → v .object ≡ o → ((u : Version) → In u vs → u .maker ≡ p → u .object ≡ o → u .value ≡ x) → made-value p o vs d ≡ x
 made-is p o x [] v d i e f same = absurd i
 made-is p o x (u ∷ vs) v d i e f same = go (eqb (u .maker) p && eqb (u .object) o) refl i (λ j. made-is p o x vs v d j e f (λ w l. same w (inr l)))

@@ -1,4 +1,5 @@
--- Reach is closed: what a place in it waits for is in it.
+-- What is reached from a set of jobs by waits has, with each job, all that this one waits for: seventeen rounds are enough for sixteen places.
+-- Words: `spread`, `rounds`, `reach` of specs/Holdings.
 use mathlib.Core.Path.{_≡_, refl, sym, _∙_, subst}
 use mathlib.Core.Bool.{true}
 use mathlib.Core.Logic.{_⊎_, inl, inr}
@@ -47,6 +48,7 @@ size-max = ones-max 16
 
 -- ---- the rounds
 module _ (w : ℕ → ℕ) where
+  -- what a member waits for is a member
   pub Closed : ℕ → Type 0
   Closed s = (k q : ℕ) → k < 16 → q < 16 → has s k ≡ true → has (w k) q ≡ true → has s q ≡ true
 
@@ -86,6 +88,7 @@ module _ (w : ℕ → ℕ) where
   closed-rounds zero s c = c
   closed-rounds (suc n) s c = closed-rounds n (spread w 16 s) (closed-spread s c)
 
+  -- each round adds a place or is the last
   rounds-closed : (n s : ℕ) → 16 < n + size s → Closed (rounds w n s)
   unfolding rounds Closed
   rounds-closed zero s l = absurd (omega (arith, size-max s))

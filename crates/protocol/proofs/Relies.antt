@@ -1,4 +1,5 @@
--- Executions rely on the jobs that the history names, and there is one for each way in which these may end.
+-- A job has an execution for each way in which the jobs on which it relies may end, as long as few enough of them abort; and one execution once all have ended.
+-- Here the statement, a new book, a begin and an image. Words: `Goes`, `Able`.
 use mathlib.Core.Path.{_≡_, refl, sym, ap, _∙_, subst}
 use mathlib.Core.Bool.{true, false, cond}
 use mathlib.Core.Logic.{_⊎_, inl, inr}
@@ -32,7 +33,7 @@ use Rattle.protocol.proofs.Accepted.{Begins}
 use Rattle.protocol.proofs.Shape.{Shape, runs-begun}
 use Rattle.protocol.proofs.Assumes.{Assumes, ApartE}
 
--- ab: the jobs that abort in a way in which the running jobs may end. An assumption goes with it
+-- a way in which the running jobs may end is the set ab of those that abort; a goes with it if nothing that a takes is against it
 pub record Goes (a : Assumption) (ab : ℕ) : Type 0 where
   pub onC : (k : ℕ) → Com a k → has ab k ≡ false
   pub onA : (k : ℕ) → Abo a k → has ab k ≡ true
@@ -41,15 +42,22 @@ pub record Goes (a : Assumption) (ab : ℕ) : Type 0 where
 abbrev pub Able : List Execution → ℕ → ℕ → Type 0
 Able es p ab = (e : Execution) × In e es × (e .job ≡ p) × Goes (e .assumption) ab
 
+-- relied p: the running jobs on which p relies; gone p: how many on which it relied have aborted
 pub record Relies (m : Model) (relied gone : ℕ → ℕ) : Type 0 where
+  -- who is relied on runs, and no job relies on itself
   pub running : (p : ℕ) → Runs m p → (k : ℕ) → has (relied p) k ≡ true → Runs m k × (k ≡ p → ⊥)
+  -- relied: an execution assumes only about jobs on which its job relies
   pub e-relied : (e : Execution) → In e (m .executions) → (k : ℕ) → Sum (e .assumption) k → has (relied (e .job)) k ≡ true
+  -- and a version only about its maker and those on which the maker relies
   pub v-relied : (v : Version) → In v (m .versions) → (k : ℕ) → Sum (v .assumption) k → (k ≡ v .maker) ⊎ (has (relied (v .maker)) k ≡ true)
+  -- counted: a tally is at most the relied-on jobs that aborted and those now taken to abort
   pub counted : (e : Execution) → In e (m .executions) → e .tally ≤ gone (e .job) + size (aborts-of (e .assumption))
+  -- complete: where each relied-on job that commits in ab has an execution for it, and few enough abort, p has one too
   pub complete : (p : ℕ) → Runs m p → (ab : ℕ) → ((k : ℕ) → has (relied p) k ≡ true → has ab k ≡ false → Able (m .executions) k ab)
       → gone p + size (meet (relied p) ab) ≤ m .robustness → Able (m .executions) p ab
 
 -- ---- all relied-on jobs have ended: one execution
+-- a list of which no two are apart has one member
 single-list : (xs : List Execution) → (e : Execution) → In e xs → Pairs (λ e f. ⊥) xs → length xs ≡ 1
 single-list [] e i p = absurd i
 single-list (x ∷ []) e i p = refl
@@ -79,6 +87,7 @@ pub relies-new : (r l : ℕ) (values : List ℕ) → ((p : ℕ) → Runs (new r 
 unfolding new
 relies-new r l values idle = record { running = λ p h. absurd (idle p h); e-relied = λ e i. absurd i; v-relied = λ v i. absurd i; counted = λ e i. absurd i; complete = λ p h. absurd (idle p h) }
 
+-- nothing, for the job that begins at p
 abbrev pub reset : ℕ → (ℕ → ℕ) → ℕ → ℕ
 reset p f q = cond (eqb q p) 0 (f q)
 

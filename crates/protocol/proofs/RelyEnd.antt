@@ -1,4 +1,4 @@
--- The end of a job keeps an execution for each way in which the others may end.
+-- The end of a job keeps an execution for each way in which the others may end: the way is made whole by the real ending.
 use mathlib.Core.Path.{_≡_, refl, sym, ap, _∙_, subst}
 use mathlib.Core.Bool.{Bool, true, false, not, cond, _&&_, _||_}
 use mathlib.Core.Logic.{_⊎_, inl, inr}
@@ -17,8 +17,7 @@ use Rattle.protocol.specs.Model.{Model}
 use Rattle.protocol.specs.Places.{has, single, join, without, size}
 use Rattle.protocol.specs.Settling.{denied, survives, settled, settled-execution, settled-version, settle}
 use Rattle.protocol.specs.declared.jobs.Ending.{Ending}
-use Rattle.protocol.specs.declared.jobs.Ending.the-variants.{Committed}
-use Rattle.protocol.specs.declared.jobs.Ending.the-variants.{Aborted}
+use Rattle.protocol.specs.declared.jobs.Ending.the-variants.{Committed, Aborted}
 use Rattle.protocol.proofs.PlaceLaws.{size-mono, has-join, has-without, has-single}
 use Rattle.protocol.proofs.Sets.{less, less-in}
 use Rattle.protocol.proofs.Counts.{meet, meet-in, in-meet, size-less}
@@ -27,7 +26,7 @@ use Rattle.protocol.proofs.Assumed.{Com, Abo, Sum}
 use Rattle.protocol.proofs.Shape.{Shape, runs-small, runs-ended, ended-runs}
 use Rattle.protocol.proofs.Relies.{Goes, Able, Relies}
 
--- ab with the real ending of k
+-- the way ab, with the real ending of k
 ended : Ending → ℕ → ℕ → ℕ
 ended Committed k ab = without ab (single k)
 ended Aborted k ab = join ab (single k)
@@ -61,9 +60,11 @@ ended-own Aborted k ab = has-join ab (single k) k ∙ last-true _ _ (has-single 
 module _ (w : Ending) (k : ℕ) (values′ : List ℕ) (m : Model) (relied gone : ℕ → ℕ) (sh : Shape m) (runs-k : Runs m k) (y : Relies m relied gone)
     -- where k commits it has an execution that goes with every way
     (able-k : (ab : ℕ) → is-aborted w ≡ false → Able (m .executions) k ab) where
+  -- k is no longer among the running jobs that are relied on
   abbrev relied′ : ℕ → ℕ
   relied′ q = without (relied q) (single k)
 
+  -- and counts where it was relied on and aborted
   abbrev gone′ : ℕ → ℕ
   gone′ q = gone q + cond (has (relied q) k && is-aborted w) 1 0
 

@@ -1,4 +1,4 @@
--- A lock keeps an execution for each way in which the relied-on jobs may end.
+-- A lock keeps an execution for each way in which the relied-on jobs may end: it pairs one that goes with that way with the version of the last maker that commits in it.
 use mathlib.Core.Path.{_≡_, refl, sym, ap, _∙_, subst}
 use mathlib.Core.Bool.{true, false, not, cond}
 use mathlib.Core.Logic.{_⊎_, inl, inr}
@@ -38,6 +38,7 @@ use Rattle.protocol.proofs.Follows.{Follows}
 use Rattle.protocol.proofs.Relies.{Goes, Able, Relies}
 
 -- ---- the last maker that commits
+-- in the way ab every maker of o aborts, or there is a last one that commits
 abbrev Last : List Holding → ℕ → ℕ → Type 0
 Last hs o ab = ((q : ℕ) → has (makers o hs) q ≡ true → has ab q ≡ true) ⊎ ((q : ℕ) × Maker hs o q × (has ab q ≡ false) × ((k : ℕ) → has (later-makers o q hs) k ≡ true → has ab k ≡ true))
 
@@ -90,6 +91,7 @@ module _ (r : Rule) (m : Model) (s : Plain) (p o : ℕ) (mode : Mode) (relied go
   abbrev mk : ℕ
   mk = makers o (m .holdings)
 
+  -- what each job relies on once p has locked o
   abbrev pub grown : ℕ → ℕ
   grown q = cond (eqb q p) (without (join (relied p) (spread relied 16 mk)) (single p)) (relied q)
 
@@ -104,7 +106,7 @@ module _ (r : Rule) (m : Model) (s : Plain) (p o : ℕ) (mode : Mode) (relied go
       let k = makers-why (m .holdings) o q i in
       (subst (Runs m) (k .job) (sh .held-by (k .holding) (k .there) .0), λ e. b .new (k .holding) (k .there) (k .job ∙ e) (k .object))
 
-  -- into what p relies on now
+  -- what p relies on now has what it relied on, the makers, and what these rely on
   from-old : (q k : ℕ) → Runs m q → has (relied q) k ≡ true → has (grown q) k ≡ true
   from-old q k h i = elim (cases-eq q p) [
     | inl e ↦ subst (λ n. has n k ≡ true) (sym (grown-own q e)) (less-in _ p k (join-left _ _ k (subst (λ z. has (relied z) k ≡ true) e i)) (λ z. y .running q h k i .1 (z ∙ sym e)))
@@ -120,7 +122,7 @@ module _ (r : Rule) (m : Model) (s : Plain) (p o : ℕ) (mode : Mode) (relied go
   maker-of : (v : Version) → In v (m .versions) → v .object ≡ o → Maker (m .holdings) o (v .maker)
   maker-of v i e = let w = sh .made-by v i in record { holding = w .0; there = w .1; job = w .2; object = w .3 ∙ e; turned = w .4 }
 
-  -- what an offer assumes
+  -- what an offer assumes about is relied on from now on
   offer-relied : (z : Offer) → In z (offers m o) → (k : ℕ) → (k ≡ p → ⊥) → (has (commits-of (z .assumption)) k ≡ true) ⊎ (has (aborts-of (z .assumption)) k ≡ true) → has (grown p) k ≡ true
   offer-relied = over-offers _ m o
       (λ k n. elim [ inl e ↦ none-in k e | inr e ↦ from-maker k e ])
@@ -130,7 +132,7 @@ module _ (r : Rule) (m : Model) (s : Plain) (p o : ℕ) (mode : Mode) (relied go
       λ t. elim (y .v-relied v i k t) [ inl e ↦ subst (λ q. has (grown p) q ≡ true) (sym e) (from-maker (v .maker) mv) | inr e ↦ from-beyond (v .maker) k mv e n ] in
       elim [ inl e ↦ by-version (inl e) | inr e ↦ elim (join-cases _ _ k e) [ inl g ↦ by-version (inr g) | inr g ↦ from-maker k (after-makers (m .holdings) o (v .maker) k g) ] ])
 
-  -- an execution behind one that goes with ab
+  -- a job that is able now was able before
   able-old : (k ab : ℕ) → Able (next r m (Lock p o mode) .executions) k ab → Able (m .executions) k ab
   unfolding next
   able-old k ab a = over-append (λ e. e .job ≡ k → Goes (e .assumption) ab → Able (m .executions) k ab) (keep (λ e. not (names p e)) (m .executions)) (kept-pairs r m p o mode)
@@ -166,7 +168,7 @@ module _ (r : Rule) (m : Model) (s : Plain) (p o : ℕ) (mode : Mode) (relied go
     abbrev e′ : Execution
     e′ = pairing r m p o mode e z
 
-    -- p is not in its executions-of assumption, and the rest it relies on
+    -- p assumes nothing of itself
     not-p : (k : ℕ) → Sum (e′ .assumption) k → k ≡ p → ⊥
     not-p k t q = not-own _ (c′ .rank) (c′ .falls) p (e′ .assumption) (pair-chain r m p o mode b sh x e i j z l) (subst (Sum (e′ .assumption)) q t)
 

@@ -1,4 +1,4 @@
--- The test for a ring finds exactly the rings.
+-- The test for a ring refuses exactly the locks that close one, as specs/RingTest states it.
 use mathlib.Core.Path.{_≡_}
 use mathlib.Core.Bool.{true}
 use mathlib.Core.Logic.{_↔_, _⊎_, inl, inr}

@@ -1,4 +1,4 @@
--- Sets of places are told apart by their members, and their sizes count them.
+-- The laws of sets of places as specs/SetLaws states them: a set is its members, and its size counts them.
 use mathlib.Core.Path.{_≡_, refl, sym, ap, _∙_}
 use mathlib.Core.Bool.{Bool, true, false, not, cond, _&&_, _||_}
 use mathlib.Core.Logic.{inl, inr}

@@ -1,4 +1,5 @@
--- The records of the book name jobs that run; an object is holding-count once by a job, and not behind an open holding.
+-- The records of the book fit together: each names a job that runs, a job holds an object once, and nothing is held behind an open holding.
+-- Every call keeps it.
 use mathlib.Core.Path.{_≡_, refl, sym, ap, _∙_, subst}
 use mathlib.Core.Bool.{Bool, true, false, not, _&&_}
 use mathlib.Core.Logic.{inl, inr}
@@ -34,11 +35,17 @@ use Rattle.protocol.proofs.Lists.{in-keep, keep-in, over-keep, over-append, ov
 use Rattle.protocol.proofs.Accepted.{Begins, Locks, Images}
 
 pub record Shape (m : Model) : Type 0 where
+  -- there are sixteen places
   pub places : length (m .jobs) ≡ 16
+  -- who holds runs, and what is held is an object
   pub held-by : (h : Holding) → In h (m .holdings) → Runs m (h .job) × (h .object < length (m .values))
+  -- an execution is of a job that runs, with room for eight values met
   pub worked-by : (e : Execution) → In e (m .executions) → Runs m (e .job) × (length (e .met) ≡ 8)
+  -- the maker of a version has turned its object
   pub made-by : (v : Version) → In v (m .versions) → (h : Holding) × In h (m .holdings) × (h .job ≡ v .maker) × (h .object ≡ v .object) × (turned (h .state) ≡ true)
+  -- a job holds an object once
   pub once : (g h : Holding) → Behind g h (m .holdings) → g .job ≡ h .job → g .object ≡ h .object → ⊥
+  -- an open holding is the last of its object
   pub last : (g h : Holding) → Behind g h (m .holdings) → g .object ≡ h .object → opened (g .state) ≡ true → ⊥
 
 -- ---- the list of jobs
@@ -104,7 +111,7 @@ over-paired P r m p o mode f =
     over-keep P (is-kept (m .robustness)) (map (pairing r m p o mode e) (offers m o)) (λ y j.
     over-map (λ z. is-kept (m .robustness) z ≡ true → P z) (pairing r m p o mode e) (offers m o) (λ x l t. f e (own-e .0) (eqb-true _ _ (own-e .1)) x l t) y j))
 
--- what holds of each offer: of the stored value, and of each version-by
+-- what holds of each offer: of the stored value, and of each version
 pub over-offers : (P : Offer → Type 0) (m : Model) (o : ℕ) → P (stored-offer m o) → ((v : Version) → In v (m .versions) → v .object ≡ o → P (offer (m .holdings) o v)) → (x : Offer) → In x (offers m o) → P x
 unfolding offers
 over-offers P m o f g x (inl e) = subst P e f
@@ -180,6 +187,7 @@ shape-settle w k values m long s = record {
   last = λ g h i. s .last g h (in-keep-behind _ (m .holdings) g h i .0);
 }
 
+-- a commit leaves as many values as there were
 pub length-written : (p : ℕ) (vs : List Version) (hs : List Holding) (xs : List ℕ) → length (written p vs hs xs) ≡ length xs
 unfolding written
 length-written p vs [] xs = refl

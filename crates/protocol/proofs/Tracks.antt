@@ -1,4 +1,5 @@
--- The history by numbers of begins, and the same by places: which running jobs each relies on, and how many have Aborted.
+-- The history names jobs by the number of their begin, the book by place: both say the same of the running jobs.
+-- Words: `History` of specs/History; `rel`, `gone` as in Relies.
 use mathlib.Core.Path.{_≡_, refl, sym, ap, _∙_, subst, subst₂}
 use mathlib.Core.Bool.{Bool, true, false, not, cond, _&&_}
 use mathlib.Core.Logic.{_⊎_, inl, inr}
@@ -34,14 +35,20 @@ abbrev pub RunsAt : List (Option Job) → ℕ → Type 0
 RunsAt js p = is-some (getD js p None) ≡ true
 
 pub record Tracks (js : List (Option Job)) (h : History) (rel gone : ℕ → ℕ) : Type 0 where
+  -- whom a running job relies on by place, it relies on in the history
   pub known : (p k : ℕ) → RunsAt js p → has (rel p) k ≡ true → relies-on (h .relied) (h .ids p) (h .ids k) ≡ true
+  -- a running job has not ended
   pub alive : (p : ℕ) → RunsAt js p → has-ended (h .ended) (h .ids p) ≡ false
+  -- two running jobs have two numbers
   pub apart : (p q : ℕ) → RunsAt js p → RunsAt js q → h .ids p ≡ h .ids q → p ≡ q
+  -- a running job has begun
   pub older : (p : ℕ) → RunsAt js p → h .ids p < h .begun
+  -- and so has an ended one
   pub past : (x : ℕ) → has-ended (h .ended) x ≡ true → x < h .begun
+  -- no more relied-on jobs are counted as aborted than the history has
   pub count : (p : ℕ) → RunsAt js p → gone p ≤ aborts h (h .ids p)
 
--- what the law asks of a job, by places
+-- where all on which a job ever relied have ended, it relies on no running job
 pub all-ended : (m : Model) (h : History) (rel gone : ℕ → ℕ) → Tracks (m .jobs) h rel gone → Relies m rel gone → (p : ℕ) → Runs m p
     → ((x : ℕ) → relies-on (h .relied) (h .ids p) x ≡ true → has-ended (h .ended) x ≡ true) → (k : ℕ) → has (rel p) k ≡ true → ⊥
 all-ended m h rel gone t y p run f k i = both-ways _ (t .alive k (y .running p run k i .0)) (f (h .ids k) (t .known p k run i))

@@ -1,4 +1,4 @@
--- Who waits for whom, and how a lock, an image and an end change it.
+-- The set of jobs that a job waits for is the relation of specs/Waiting, and how a lock, an image and an end change it.
 use mathlib.Core.Path.{_≡_, refl, sym, ap, _∙_, subst}
 use mathlib.Core.Bool.{Bool, true, false, not, cond, _&&_}
 use mathlib.Core.Logic.{_⊎_, inl, inr}
@@ -16,6 +16,7 @@ use Rattle.protocol.specs.Waiting.{Waits-for}
 use Rattle.protocol.proofs.Sets.{none-in, join-left, join-right, join-cases, single-is, single-in, cond-in, in-cond}
 use Rattle.protocol.proofs.Lists.{any-in, in-any, behind-append, behind-last, push-cases, in-keep-behind, keep-behind, in-map-behind, map-behind}
 
+-- who is among the jobs of some holdings has such a holding, and the other way round
 pub jobs-in : (t : Holding → Bool) (hs : List Holding) (q : ℕ) → has (jobs-of t hs) q ≡ true → (h : Holding) × In h hs × (t h ≡ true) × (h .job ≡ q)
 unfolding jobs-of
 jobs-in t [] q e = none-in q e
@@ -32,6 +33,7 @@ in-jobs t [] h i e = absurd i
 in-jobs t (g ∷ hs) h (inl p) e = join-left _ _ _ (in-cond (t g) _ _ (ap t p ∙ e) (single-in _ _ (ap (λ x. x .job) p)))
 in-jobs t (g ∷ hs) h (inr i) e = join-right _ _ _ (in-jobs t hs h i e)
 
+-- who is in the set is waited for, and the other way round
 pub waits-why : (hs : List Holding) (p q : ℕ) → has (waits hs p) q ≡ true → Waits-for hs p q
 unfolding waits
 waits-why [] p q e = none-in q e
@@ -147,6 +149,7 @@ turn-waits p o hs a b e =
     })
 
 -- ---- the holdings of job k are removed
+-- the holdings of all jobs but k
 abbrev pub rest : ℕ → List Holding → List Holding
 rest k hs = keep (λ h. not (eqb (h .job) k)) hs
 
