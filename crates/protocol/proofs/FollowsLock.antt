@@ -112,7 +112,7 @@ module _ (r : Rule) (m : Model) (s : Plain) (p o : ℕ) (mode : Mode) (b : Locks
 
     old-met : (h : Holding) → In h hs → h .job ≡ e .job → met-at hs′ e′ (h .object) ≡ met-at hs e (h .object)
     old-met h i j =
-        let less = index-less (e .job) (h .object) hs h i j refl in
+        let inside = index-less (e .job) (h .object) hs h i j refl in
         let same = ap (λ q. length (keep (held-by q) hs)) je in
         ap (λ x. getD (set (e .met) (holding-count m p) (y .value)) x 0) (index-old (e .job) (h .object) h i j refl)
         ∙ getD-set-other (e .met) (holding-count m p) (position (e .job) (h .object) hs) (y .value) 0 (λ q. omega arith)

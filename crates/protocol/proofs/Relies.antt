@@ -96,7 +96,7 @@ unfolding next
 relies-begin r m p k a relied gone b sh y = record {
   running = λ q h j i. elim (cases-eq q p) [
     | inl e ↦ none-in j (subst (λ n. has n j ≡ true) (here relied q e) i)
-    | inr n ↦ let w = y .running q (old-run q n h) j (subst (λ x. has x j ≡ true) (there relied q n) i) in (runs-begun (m .jobs) p j _ inside (w .0), w .1)
+    | inr n ↦ let w = y .running q (old-run q n h) j (subst (λ x. has x j ≡ true) (there relied q n) i) in (runs-begun (m .jobs) p j (record { kind = k; argument = a }) inside (w .0), w .1)
   ];
   e-relied = over-push (λ e. (k : ℕ) → Sum (e .assumption) k → has (reset p relied (e .job)) k ≡ true) (m .executions) _
       (λ e i k s. subst (λ x. has x k ≡ true) (sym (there relied (e .job) (not-p _ (sh .worked-by e i .0)))) (y .e-relied e i k s))

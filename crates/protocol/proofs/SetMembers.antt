@@ -14,7 +14,7 @@ use Rattle.std.proofs.shelf.Tests.{true≢false, false≢true, cases-lt, lt-ltb
 use Rattle.protocol.specs.Lists.{keep}
 use Rattle.protocol.specs.Places.{has, placed, join, without, size}
 use Rattle.protocol.specs.SetLaws.{Set-laws, places}
-use Rattle.protocol.proofs.Counts.{apart-disjoint}
+use Rattle.protocol.proofs.Counts.{below-pow, apart-disjoint}
 use Rattle.protocol.proofs.PlaceLaws.{Digit, d0, d1, digit-of, has-suc, has-first, has-zero, has-single, has-join, has-without, has-past, disjoint-apart, size-join, size-mono}
 
 -- ---- the same members, the same set
@@ -30,11 +30,6 @@ same-in (suc w) a b h i f =
     let high : a / 2 ≡ b / 2 = same-in w (a / 2) (b / 2) (omega (arith, pow-suc 2 w)) (omega (arith, pow-suc 2 w)) (λ k. sym (has-suc a k) ∙ f (suc k) ∙ has-suc b k) in
     let low : a % 2 ≡ b % 2 = same-digit (a % 2) (b % 2) (digit-of a) (digit-of b) (sym (has-first a) ∙ f 0 ∙ has-first b) in
     omega arith
-
-below-pow : (n w : ℕ) → n ≤ w → n < 2 ^ w
-below-pow n zero h = omega arith
-below-pow zero (suc w) h = omega (arith, below-pow zero w (omega arith), pow-suc 2 w)
-below-pow (suc n) (suc w) h = omega (arith, below-pow n w (omega arith), pow-suc 2 w)
 
 pub same-members : (a b : ℕ) → ((k : ℕ) → has a k ≡ has b k) → a ≡ b
 same-members a b = same-in (a + b) a b (below-pow a (a + b) (omega arith)) (below-pow b (a + b) (omega arith))
