@@ -1,6 +1,5 @@
 -- The history: what the accepted calls of a past tell of jobs, holdings, relying and endings. A place is used again, so a job goes by the number
 -- of its begin: how many begins were accepted before it.
-use mathlib.Core.Path.{_≡_}
 use mathlib.Core.Bool.{Bool, true, false, not, cond, _&&_}
 use mathlib.Core.List.{List, [], _∷_, _++_, map}
 use Prim.Native.Nat.{ℕ, suc}
@@ -72,7 +71,7 @@ ends how p h = record {
   ended = h .ended ++ record { job = h .ids p; how = how } ∷ [];
 }
 
--- an accepted call: a begin starts the next job, a lock begins a holding and makes the job rely, an image turns the holding, a commit or an abort ends the job
+-- an accepted call: by a begin the next job runs, by a lock it holds and relies, by an image its holding turns, by a commit or an abort it has ended
 abbrev pub history-one : History → Call → History
 history-one h (Begin p k a) = record {
   begun = suc (h .begun);

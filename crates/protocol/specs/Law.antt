@@ -7,7 +7,7 @@ use lib.ListN.{length}
 use Rattle.terms.specs.declared.calls.Call.{Call}
 use Rattle.terms.specs.Rule.{Rule}
 use Rattle.protocol.specs.History.{History, history-of, relies-on, has-ended, aborts}
-use Rattle.protocol.specs.Model.{Model, new, executions-of}
+use Rattle.protocol.specs.Model.{new, executions-of}
 use Rattle.protocol.specs.Past.{Event, past}
 use Rattle.protocol.specs.PlainRun.{plain-run}
 use Rattle.protocol.specs.Step.{run}

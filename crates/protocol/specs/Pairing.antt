@@ -43,7 +43,7 @@ pair n take e x = record {
   met = set (e .met) n (x .value);
 }
 
--- a pair is kept if no job is in both sets and the tally is at most the robustness
+-- a pair stays where it takes no job both ways and keeps within the robustness
 abbrev pub is-kept : ℕ → Execution → Bool
 is-kept robustness e = disjoint (commits-of (e .assumption)) (aborts-of (e .assumption)) && leb (e .tally) robustness
 

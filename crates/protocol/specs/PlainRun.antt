@@ -1,5 +1,5 @@
 -- The plain run: the committed jobs alone, one after another, in the order of their commits. It is fed a past and nothing else of the book.
-use mathlib.Core.Bool.{Bool, not}
+use mathlib.Core.Bool.{not}
 use mathlib.Core.List.{List, [], _∷_, _++_}
 use Prim.Native.Nat.{ℕ}
 use lib.ListN.{getD, set}

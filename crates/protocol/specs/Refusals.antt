@@ -4,39 +4,39 @@ use Rattle.protocol.specs.declared.refusals.Refusal.{Refusal}
 use Rattle.protocol.specs.declared.refusals.Refusal.the-variants.{RobustnessTooLarge, LimitOutOfRange, NoSuchPlace, PlaceTaken, UnknownKind, NoJob, LostJob, NoSuchObject, AlreadyHeld, TooManyHeld, OpenElsewhere, WouldWaitForItself, NoExecution, TooManyExecutions, NotOpen, TooManyVersions, HasOpen, Waits}
 
 abbrev pub refusal-number : Refusal → ℕ
--- the robustness is above 120
+-- a robustness over 120
 refusal-number RobustnessTooLarge = 1
--- the limit is 0 or above 16
+-- a limit that is not one of 1 to 16
 refusal-number LimitOutOfRange = 2
--- the place is above 15
+-- there is no such place
 refusal-number NoSuchPlace = 3
--- a job runs at the place of a begin
+-- the place of a begin is not idle
 refusal-number PlaceTaken = 4
--- the job rule does not know the kind
+-- there are no jobs of that kind
 refusal-number UnknownKind = 5
--- no job runs at the place of another call
+-- the place of another call is idle
 refusal-number NoJob = 6
--- the job has no execution left
+-- all executions of the job are gone
 refusal-number LostJob = 7
--- the store has no such object
+-- there is no such object
 refusal-number NoSuchObject = 8
--- the job holds the object to be locked
+-- the job has locked the object before
 refusal-number AlreadyHeld = 9
--- the job holds eight objects
+-- the job has eight objects already
 refusal-number TooManyHeld = 10
--- another job has the object to be locked open
+-- somebody else has the object open
 refusal-number OpenElsewhere = 11
--- by the lock the job would wait, directly or through others, for itself
+-- the lock would close a ring of waits
 refusal-number WouldWaitForItself = 12
--- the lock would keep no execution
+-- no pair would stay
 refusal-number NoExecution = 13
--- the lock would keep more executions than the limit
+-- more pairs would stay than there may be
 refusal-number TooManyExecutions = 14
--- the job does not have the object to be imaged open
+-- what is to be imaged is not open to the job
 refusal-number NotOpen = 15
--- the image would bring all versions above 256
+-- the book would have more than 256 versions
 refusal-number TooManyVersions = 16
--- the committing job has an open holding
+-- who commits still has something open
 refusal-number HasOpen = 17
--- the committing job waits for another
+-- who commits waits for somebody
 refusal-number Waits = 18

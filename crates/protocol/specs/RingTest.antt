@@ -9,7 +9,7 @@ use Rattle.terms.specs.Rule.{Rule}
 use Rattle.protocol.specs.declared.holdings.Holding.{Holding}
 use Rattle.protocol.specs.Holdings.{would-ring}
 use Rattle.protocol.specs.Lists.{In}
-use Rattle.protocol.specs.Model.{Model, new}
+use Rattle.protocol.specs.Model.{new}
 use Rattle.protocol.specs.Step.{run}
 use Rattle.protocol.specs.Waiting.{Waits-through}
 

@@ -34,8 +34,8 @@ settled-execution k e = record { job = e .job; assumption = settled k (e .assump
 abbrev pub settled-version : ℕ → Version → Version
 settled-version k v = record { object = v .object; maker = v .maker; value = v .value; assumption = settled k (v .assumption) }
 
--- the book after job k has ended and left these values in the store: its own records are removed, those that took the other ending are dropped, and
--- it is taken out of the sets of the rest
+-- the book after job k has ended and left these values in the store: its own records are gone, and so are those that took it to end the other way;
+-- all others forget it
 unfoldable pub settle : Ending → ℕ → List ℕ → Model → Model
 settle how k values m = record {
   robustness = m .robustness;

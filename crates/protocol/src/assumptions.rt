@@ -1,7 +1,7 @@
 // What is taken of how running jobs will end, and the records that rest on it.
 use super::places::PlaceSet;
 
-// The running jobs taken to commit, and those taken to abort.
+// A guess: which running jobs will commit, and which will abort.
 #[derive(Clone, Copy)]
 pub struct Assumption {
     pub commits: PlaceSet,
@@ -21,7 +21,7 @@ pub struct Execution {
     pub job: u8,
     pub assumption: Assumption,
     pub work: u64,
-    // how many different jobs it has ever taken to abort, ended ones too
+    // on how many jobs' abort it has ever counted, whether they still run or not
     pub tally: u8,
     // the value met at each object that the job holds, in the order of locking
     pub met: [u64; 8],

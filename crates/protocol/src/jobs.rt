@@ -1,4 +1,4 @@
-// A job is one run at a place, from an accepted begin to an accepted commit or abort.
+// What runs at a place: it is there once its begin is accepted, until its commit or its abort is.
 #[derive(Clone, Copy)]
 pub struct Job {
     pub kind: u8,
