@@ -116,7 +116,7 @@ relies-begin r m p k a relied gone b sh y = record {
           | inr o ↦ elim o [ inl e ↦ absurd (b .idle (subst (Runs m) (sym (ap (λ z. z .job) e ∙ g .2)) run-j)) | inr z ↦ absurd z ]
         ])
         (omega (arith, l, there gone q n, ap (λ x. size (meet x ab)) (there relied q n))) in
-        (w .0, append-left (m .executions) _ _ (w .1), w .2, w .3)
+        (w .0, append-left (m .executions) (begun ∷ []) (w .0) (w .1), w .2, w .3)
   ];
 }
   where
