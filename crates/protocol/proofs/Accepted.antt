@@ -14,13 +14,13 @@ use Rattle.terms.specs.declared.modes.Mode.{Mode}
 use Rattle.protocol.specs.declared.holdings.Holding.{Holding}
 use Rattle.terms.specs.declared.calls.Call.the-variants.{Begin, Lock, Image, Commit, Abort}
 use Rattle.protocol.specs.declared.assumptions.Execution.{Execution}
-use Rattle.protocol.proofs.Runs.{Runs}
 use Rattle.protocol.specs.Holdings.{holds, held-by, opened, begins, waits, new-waits, reach}
 use Rattle.protocol.specs.Lists.{is-nil, first, In, All}
 use Rattle.protocol.specs.Model.{Model, executions-of, holding-count, names}
 use Rattle.protocol.specs.Places.{has}
 use Rattle.protocol.specs.Step.{answer, refusals}
 use Rattle.terms.specs.Rule.{Rule}
+use Rattle.protocol.proofs.Running.{Runs}
 use Rattle.protocol.proofs.Lists.{any-in, none-passes, in-keep}
 
 -- where no refusal is answered, every test fails
@@ -75,13 +75,13 @@ pub record Commits (m : Model) (p : ℕ) : Type 0 where
 small : (p : ℕ) → ltb 15 p ≡ false → p < 16
 small p e = omega (arith, ltb-false 15 p e)
 
-pub begins-ok : (r : Rule) (m : Model) (p k a : ℕ) → answer r m (Begin p k a) ≡ None → Begins m p
+pub begin-accepted : (r : Rule) (m : Model) (p k a : ℕ) → answer r m (Begin p k a) ≡ None → Begins m p
 unfolding answer refusals
-begins-ok r m p k a e = let f = first-none (refusals r m (Begin p k a)) e in record { small = small p (f .0); idle = λ i. both-ways _ (f .1 .0) i }
+begin-accepted r m p k a e = let f = first-none (refusals r m (Begin p k a)) e in record { small = small p (f .0); idle = λ i. both-ways _ (f .1 .0) i }
 
-pub locks-ok : (r : Rule) (m : Model) (p o : ℕ) (mode : Mode) → answer r m (Lock p o mode) ≡ None → Locks m p o mode
+pub lock-accepted : (r : Rule) (m : Model) (p o : ℕ) (mode : Mode) → answer r m (Lock p o mode) ≡ None → Locks m p o mode
 unfolding answer refusals
-locks-ok r m p o mode e =
+lock-accepted r m p o mode e =
     let f = first-none (refusals r m (Lock p o mode)) e in
     record {
       runs = not-false _ (f .1 .0);
@@ -92,9 +92,9 @@ locks-ok r m p o mode e =
       ring = f .1 .1 .1 .1 .1 .1 .1 .0;
     }
 
-pub images-ok : (r : Rule) (m : Model) (p o : ℕ) → answer r m (Image p o) ≡ None → Images m p o
+pub image-accepted : (r : Rule) (m : Model) (p o : ℕ) → answer r m (Image p o) ≡ None → Images m p o
 unfolding answer refusals
-images-ok r m p o e =
+image-accepted r m p o e =
     let f = first-none (refusals r m (Image p o)) e in
     let a = any-in (λ h. holds p o h && opened (h .state)) (m .holdings) (not-false _ (f .1 .1 .1 .1 .0)) in
     let b = and-parts _ _ (a .2) in
@@ -109,9 +109,9 @@ not-nil : {A : Type 0} (xs : List A) → is-nil xs ≡ false → (x : A) × In x
 not-nil [] e = absurd (both-ways true e refl)
 not-nil (x ∷ xs) e = (x, inl refl)
 
-pub commits-ok : (r : Rule) (m : Model) (p : ℕ) → answer r m (Commit p) ≡ None → Commits m p
+pub commit-accepted : (r : Rule) (m : Model) (p : ℕ) → answer r m (Commit p) ≡ None → Commits m p
 unfolding answer refusals
-commits-ok r m p e =
+commit-accepted r m p e =
     let f = first-none (refusals r m (Commit p)) e in
     let x = not-nil (executions-of p m) (f .1 .1 .0) in
     let i = in-keep (names p) (m .executions) (x .0) (x .1) in
@@ -122,6 +122,6 @@ commits-ok r m p e =
       free = eqb-true _ _ (not-false _ (f .1 .1 .1 .1 .0));
     }
 
-pub aborts-ok : (r : Rule) (m : Model) (p : ℕ) → answer r m (Abort p) ≡ None → Runs m p
+pub abort-accepted : (r : Rule) (m : Model) (p : ℕ) → answer r m (Abort p) ≡ None → Runs m p
 unfolding answer refusals
-aborts-ok r m p e = not-false _ (first-none (refusals r m (Abort p)) e .1 .0)
+abort-accepted r m p e = not-false _ (first-none (refusals r m (Abort p)) e .1 .0)

@@ -12,7 +12,7 @@ use Rattle.protocol.specs.Model.{Model, new}
 use Rattle.protocol.specs.Past.{past}
 use Rattle.protocol.specs.PlainRun.{Plain, plain-one}
 use Rattle.protocol.specs.Step.{answer, next, step, run}
-use Rattle.protocol.proofs.LawA.{Inv, inv-new, inv-next}
+use Rattle.protocol.proofs.Invariant.{Invariant, invariant-new, invariant-next}
 
 pub always : (r : Rule) (P : Model → History → Type 0) → ((m : Model) (h : History) (c : Call) → answer r m c ≡ None → P m h → P (next r m c) (history-one h c))
     → (m : Model) (h : History) (cs : List Call) → P m h → P (run r m cs) (history h (past r m cs))
@@ -27,11 +27,11 @@ always r P f m h (c ∷ cs) i = go (answer r m c) refl (λ m h. always r P f m h
     go (Some x) e rec = rec m h i
 
 -- the invariant of the law, as a fact of the book alone
-abbrev pub Sound : Rule → Model → Type 0
-Sound r m = (s : Plain) × Inv r m s
+abbrev pub Lawful : Rule → Model → Type 0
+Lawful r m = (s : Plain) × Invariant r m s
 
-pub sound-next : (r : Rule) (m : Model) (c : Call) → answer r m c ≡ None → Sound r m → Sound r (next r m c)
-sound-next r m c e i = (plain-one r (i .0) c, inv-next r m (i .0) c e (i .1))
+pub lawful-next : (r : Rule) (m : Model) (c : Call) → answer r m c ≡ None → Lawful r m → Lawful r (next r m c)
+lawful-next r m c e i = (plain-one r (i .0) c, invariant-next r m (i .0) c e (i .1))
 
-pub sound : (r : Rule) (robustness limit : ℕ) (first : List ℕ) (cs : List Call) → Sound r (run r (new robustness limit first) cs)
-sound r robustness limit first cs = always r (λ m h. Sound r m) (λ m h c e i. sound-next r m c e i) (new robustness limit first) blank cs (record { values = first; pending = [] }, inv-new r robustness limit first)
+pub lawful : (r : Rule) (robustness limit : ℕ) (first : List ℕ) (cs : List Call) → Lawful r (run r (new robustness limit first) cs)
+lawful r robustness limit first cs = always r (λ m h. Lawful r m) (λ m h c e i. lawful-next r m c e i) (new robustness limit first) blank cs (record { values = first; pending = [] }, invariant-new r robustness limit first)

@@ -5,16 +5,15 @@ use mathlib.Core.Logic.{_⊎_, inl, inr}
 use mathlib.Core.List.{List, [], _∷_, _++_, map}
 use Prim.Native.Nat.{ℕ}
 use lib.Dec.{eqb}
-use Rattle.std.proofs.shelf.Tests.{false≢true, eqb-false, eq-eqb, ne-eqb, and-from, not-true}
-use Rattle.protocol.specs.declared.holdings.HoldingState.{HoldingState}
-use Rattle.protocol.specs.declared.holdings.HoldingState.the-variants.{Reading, Open, Turned}
+use Rattle.std.proofs.shelf.Tests.{eqb-false, eq-eqb, ne-eqb, and-from, not-true}
 use Rattle.protocol.specs.declared.holdings.Holding.{Holding}
-use Rattle.protocol.specs.Holdings.{holds, turned, opened, reading, turn, turn-state, waits, later-makers}
+use Rattle.protocol.specs.Holdings.{holds, turned, opened, turn, waits, later-makers}
 use Rattle.protocol.specs.Lists.{In, Behind}
 use Rattle.protocol.specs.Places.{has}
 use Rattle.protocol.proofs.Lists.{behind-in, behind-two, behind-append, behind-last, push-cases, in-keep-behind, keep-behind, in-map-behind, map-behind}
-use Rattle.protocol.proofs.Waits.{why-waits, rest}
-use Rattle.protocol.proofs.Makers.{Maker, reading-turned, why-after}
+use Rattle.protocol.proofs.Waiting.{why-waits, rest}
+use Rattle.protocol.proofs.Makers.{Maker, why-later}
+use Rattle.protocol.proofs.HoldingStates.{reading-turned, turned-turn, turned-back}
 
 -- q turned o before j locked it
 pub record Before (hs : List Holding) (o q j : ℕ) : Type 0 where
@@ -30,19 +29,6 @@ pub record Before (hs : List Holding) (o q j : ℕ) : Type 0 where
 -- who was before is a maker
 pub before-maker : (hs : List Holding) (o q j : ℕ) → Before hs o q j → Maker hs o q
 before-maker hs o q j b = record { holding = b .earlier; there = behind-in hs _ _ (b .order) .0; job = b .of; object = b .there; turned = b .turns }
-
--- and is waited for
-pub before-waits : (hs : List Holding) (o q j : ℕ) → (q ≡ j → ⊥) → Before hs o q j → has (waits hs j) q ≡ true
-before-waits hs o q j n b =
-    why-waits hs j q (record {
-      earlier = b .earlier;
-      later = b .later;
-      order = b .order;
-      of = b .of;
-      by = b .by;
-      other = n;
-      why = and-from _ _ (eq-eqb _ _ (b .there ∙ sym (b .same))) (ap (λ x. not (x && reading (b .later .state))) (reading-turned _ (b .turns)));
-    })
 
 -- a maker q was before another job j that holds the object, or q waits for j
 pub before-either : (hs : List Holding) (o q j : ℕ) (h : Holding) → (q ≡ j → ⊥) → Maker hs o q → In h hs → h .job ≡ j → h .object ≡ o → Before hs o q j ⊎ (has (waits hs q) j ≡ true)
@@ -69,9 +55,9 @@ before-either hs o q j h n a i e f =
     not-both false y e = refl
 
 -- a maker that m was before is a later maker than m
-pub after-before : (hs : List Holding) (o m q : ℕ) → Before hs o m q → Maker hs o q → ((g h : Holding) → Behind g h hs → g .job ≡ h .job → g .object ≡ h .object → ⊥) → has (later-makers o m hs) q ≡ true
-after-before hs o m q b k once = subst (λ x. has (later-makers o m hs) x ≡ true) (b .by)
-    (why-after hs o m (b .earlier) (b .later) (b .order) (and-from _ _ (eq-eqb _ _ (b .of)) (eq-eqb _ _ (b .there))) (b .same) (subst (λ h. turned (h .state) ≡ true) same-one (k .turned)))
+pub before-later : (hs : List Holding) (o m q : ℕ) → Before hs o m q → Maker hs o q → ((g h : Holding) → Behind g h hs → g .job ≡ h .job → g .object ≡ h .object → ⊥) → has (later-makers o m hs) q ≡ true
+before-later hs o m q b k once = subst (λ x. has (later-makers o m hs) x ≡ true) (b .by)
+    (why-later hs o m (b .earlier) (b .later) (b .order) (and-from _ _ (eq-eqb _ _ (b .of)) (eq-eqb _ _ (b .there))) (b .same) (subst (λ h. turned (h .state) ≡ true) same-one (k .turned)))
   where
     job : k .holding .job ≡ b .later .job
     job = k .job ∙ sym (b .by)
@@ -100,12 +86,6 @@ pub before-new : (hs : List Holding) (h : Holding) (o q : ℕ) → h .object ≡
 before-new hs h o q e k = record { earlier = k .holding; later = h; order = behind-last hs _ _ (k .there); of = k .job; by = refl; there = k .object; same = e; turns = k .turned }
 
 -- ---- a turned holding
-turned-back : (b : Bool) (s : HoldingState) → turned (turn-state b s) ≡ true → (turned s ≡ true) ⊎ (opened s ≡ true)
-turned-back true Reading e = absurd (false≢true e)
-turned-back true Open e = inr refl
-turned-back true Turned e = inl refl
-turned-back false s e = inl e
-
 pub before-turn : (p x : ℕ) (hs : List Holding) → ((g h : Holding) → Behind g h hs → g .object ≡ h .object → opened (g .state) ≡ true → ⊥) → (o q j : ℕ) → Before (map (turn p x) hs) o q j → Before hs o q j
 before-turn p x hs last o q j b =
     let t = in-map-behind (turn p x) hs _ _ (b .order) in
@@ -115,12 +95,6 @@ before-turn p x hs last o q j b =
       | inl e ↦ record { earlier = t .0; later = t .1; order = t .2; of = ap (λ h. h .job) (t .3) ∙ b .of; by = ap (λ h. h .job) (t .4) ∙ b .by; there = there; same = same; turns = e }
       | inr e ↦ absurd (last _ _ (t .2) (there ∙ sym same) e)
     ]
-
-pub turned-turn : (b : Bool) (s : HoldingState) → turned s ≡ true → turned (turn-state b s) ≡ true
-turned-turn true Reading e = e
-turned-turn true Open e = refl
-turned-turn true Turned e = e
-turned-turn false s e = e
 
 pub turn-before : (p x : ℕ) (hs : List Holding) (o q j : ℕ) → Before hs o q j → Before (map (turn p x) hs) o q j
 turn-before p x hs o q j b = record { earlier = turn p x (b .earlier); later = turn p x (b .later); order = map-behind (turn p x) hs _ _ (b .order); of = b .of; by = b .by; there = b .there; same = b .same; turns = turned-turn _ _ (b .turns) }

@@ -10,8 +10,8 @@ use lib.Count.{onesIn}
 use Rattle.std.proofs.shelf.Tests.{cases-lt}
 use Rattle.protocol.specs.Holdings.{spread, rounds, reach}
 use Rattle.protocol.specs.Places.{has, size}
-use Rattle.protocol.proofs.PlaceLaws.{has-suc, has-first, Digit, d0, d1, digit-of, ones-mono}
-use Rattle.protocol.proofs.Sets.{join-left, join-right, join-cases, cond-in, in-cond}
+use Rattle.protocol.proofs.SetDigits.{has-suc, has-first, Digit, d0, d1, digit-of, ones-mono}
+use Rattle.protocol.proofs.Membership.{join-left, join-right, join-cases, cond-in, in-cond}
 
 -- ---- sets of one size, one in the other, have the same members
 same-digit : (x y : ℕ) → Digit x → Digit y → y ≤ x → eqb y 1 ≡ true → eqb x 1 ≡ true

@@ -1,9 +1,9 @@
 use mathlib.Core.Path.{refl, _∙_, sym}
 use native.Mathlib.Omega.{arith}
 use Rattle.protocol.specs.Places.{has}
-use Rattle.protocol.proofs.PlaceLaws.{has-past}
 use Rattle.std.proofs.shelf.Tests.{le-ltb}
 use Rattle.protocol.proofs.places.PlaceSet.has.Needs as need
+use Rattle.protocol.proofs.SetDigits.{has-past}
 
 pub returns-then-place-lt16 : need.returns-then-place-lt16
 unfolding has

@@ -2,8 +2,8 @@ use native.Mathlib.Omega.{arith}
 use mathlib.Core.Path.{sym, _∙_}
 use Rattle.std.proofs.shelf.Bits.{one-shl}
 use Rattle.protocol.specs.Places.{single}
-use Rattle.protocol.proofs.PlaceLaws.{placed-none, placed-same, single-below}
 use Rattle.protocol.proofs.places.PlaceSet.only.Needs as need
+use Rattle.protocol.proofs.SetDigits.{placed-none, placed-same, single-below}
 
 pub returns-then-place-lt16 : need.returns-then-place-lt16
 unfolding single

@@ -1,8 +1,8 @@
 use native.Mathlib.Omega.{arith}
 use lib.Count.{ones-le}
 use Rattle.protocol.specs.Places.{size}
-use Rattle.protocol.proofs.PlaceLaws.{ones-in}
 use Rattle.protocol.proofs.places.PlaceSet.size.Needs as need
+use Rattle.protocol.proofs.SetDigits.{ones-in}
 
 pub returns : need.returns
 unfolding size

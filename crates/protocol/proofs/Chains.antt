@@ -16,44 +16,44 @@ use Rattle.protocol.specs.Places.{has, single, join}
 use Rattle.protocol.specs.Settling.{denied, survives, settled}
 use Rattle.protocol.specs.declared.jobs.Ending.{Ending}
 use Rattle.protocol.specs.declared.jobs.Ending.the-variants.{Committed, Aborted}
-use Rattle.protocol.proofs.Sets.{none-in, join-left, join-right, join-cases, single-in, single-is, less, less-in}
-use Rattle.protocol.proofs.Waits.{waits-more, direct-waits, rest, rest-waits}
+use Rattle.protocol.proofs.Membership.{none-in, join-left, join-right, join-cases, single-in, in-single, in-without-one, without-one-in}
+use Rattle.protocol.proofs.Waiting.{waits-more, new-waits-wait, rest, rest-waits}
 
 -- a takes k to commit
-abbrev pub Com : Assumption → ℕ → Type 0
-Com a k = has (commits-of a) k ≡ true
+abbrev pub CommitIn : Assumption → ℕ → Type 0
+CommitIn a k = has (commits-of a) k ≡ true
 
 -- a takes k to abort
-abbrev pub Abo : Assumption → ℕ → Type 0
-Abo a k = has (aborts-of a) k ≡ true
+abbrev pub AbortIn : Assumption → ℕ → Type 0
+AbortIn a k = has (aborts-of a) k ≡ true
 
 -- a takes k to end one way or the other
-abbrev pub Sum : Assumption → ℕ → Type 0
-Sum a k = Com a k ⊎ Abo a k
+abbrev pub AssumedIn : Assumption → ℕ → Type 0
+AssumedIn a k = CommitIn a k ⊎ AbortIn a k
 
 -- where T has a job that a takes to commit, T has all that this job waits for
 abbrev pub Closes : List Holding → Assumption → (ℕ → Bool) → Type 0
-Closes hs a T = (c q : ℕ) → Com a c → T c ≡ true → has (waits hs c) q ≡ true → T q ≡ true
+Closes hs a T = (c q : ℕ) → CommitIn a c → T c ≡ true → has (waits hs c) q ≡ true → T q ≡ true
 
 -- a is chained to job j: each test that has all that j waits for, and is so closed, has all of a
 pub Chained : List Holding → ℕ → Assumption → Type 0
-Chained hs j a = (T : ℕ → Bool) → ((q : ℕ) → has (waits hs j) q ≡ true → T q ≡ true) → Closes hs a T → (k : ℕ) → Sum a k → T k ≡ true
+Chained hs j a = (T : ℕ → Bool) → ((q : ℕ) → has (waits hs j) q ≡ true → T q ≡ true) → Closes hs a T → (k : ℕ) → AssumedIn a k → T k ≡ true
 
 -- the same for a version: each so closed test that has its maker has all of a
 pub Linked : List Holding → ℕ → Assumption → Type 0
-Linked hs m a = (T : ℕ → Bool) → T m ≡ true → Closes hs a T → (k : ℕ) → Sum a k → T k ≡ true
+Linked hs m a = (T : ℕ → Bool) → T m ≡ true → Closes hs a T → (k : ℕ) → AssumedIn a k → T k ≡ true
 
 -- the same for an offer: each so closed test that has all that the new holding h waits for has all of a
 pub Offered : List Holding → Holding → Assumption → Type 0
-Offered hs h a = (T : ℕ → Bool) → ((q : ℕ) → has (new-waits hs h) q ≡ true → T q ≡ true) → Closes hs a T → (k : ℕ) → Sum a k → T k ≡ true
+Offered hs h a = (T : ℕ → Bool) → ((q : ℕ) → has (new-waits hs h) q ≡ true → T q ≡ true) → Closes hs a T → (k : ℕ) → AssumedIn a k → T k ≡ true
 
 -- what both take
 abbrev pub joined : Assumption → Assumption → Assumption
 joined a b = assume (join (commits-of a) (commits-of b)) (join (aborts-of a) (aborts-of b))
 
-pub sum-joined : (a b : Assumption) (k : ℕ) → Sum (joined a b) k → Sum a k ⊎ Sum b k
-sum-joined a b k (inl c) = elim (join-cases _ _ k c) [ inl i ↦ inl (inl i) | inr i ↦ inr (inl i) ]
-sum-joined a b k (inr c) = elim (join-cases _ _ k c) [ inl i ↦ inl (inr i) | inr i ↦ inr (inr i) ]
+pub assumed-joined : (a b : Assumption) (k : ℕ) → AssumedIn (joined a b) k → AssumedIn a k ⊎ AssumedIn b k
+assumed-joined a b k (inl c) = elim (join-cases _ _ k c) [ inl i ↦ inl (inl i) | inr i ↦ inr (inl i) ]
+assumed-joined a b k (inr c) = elim (join-cases _ _ k c) [ inl i ↦ inl (inr i) | inr i ↦ inr (inr i) ]
 
 pub chained-none : (hs : List Holding) (j : ℕ) → Chained hs j (assume 0 0)
 unfolding Chained
@@ -74,13 +74,13 @@ module _ (hs gs : List Holding) (more : (a b : ℕ) → has (waits hs a) b ≡ t
 pub chained-pair : (hs : List Holding) (h : Holding) (a x : Assumption) → Chained hs (h .job) a → Offered hs h x → Chained (hs ++ h ∷ []) (h .job) (joined a x)
 unfolding Chained Offered
 chained-pair hs h a x c f T start step k s =
-    elim (sum-joined a x k s) [
+    elim (assumed-joined a x k s) [
       | inl i ↦ c T (λ q e. start q (waits-more hs h _ q e)) (λ d q j t e. step d q (join-left _ _ d j) t (waits-more hs h _ q e)) k i
-      | inr i ↦ f T (λ q e. start q (direct-waits hs h q e)) (λ d q j t e. step d q (join-right _ _ d j) t (waits-more hs h _ q e)) k i
+      | inr i ↦ f T (λ q e. start q (new-waits-wait hs h q e)) (λ d q j t e. step d q (join-right _ _ d j) t (waits-more hs h _ q e)) k i
     ]
 
 -- the stored value
-pub offered-stored : (hs : List Holding) (h : Holding) (x : Assumption) → commits-of x ≡ 0 → ((k : ℕ) → Abo x k → has (new-waits hs h) k ≡ true) → Offered hs h x
+pub offered-stored : (hs : List Holding) (h : Holding) (x : Assumption) → commits-of x ≡ 0 → ((k : ℕ) → AbortIn x k → has (new-waits hs h) k ≡ true) → Offered hs h x
 unfolding Offered
 offered-stored hs h x none d T start step k (inl c) = none-in k (ap (λ n. has n k) (sym none) ∙ c)
 offered-stored hs h x none d T start step k (inr c) = start k (d k c)
@@ -100,18 +100,18 @@ linked-version hs j a c T start step k s = go s
     own : has (join (commits-of a) (single j)) j ≡ true
     own = join-right _ _ j (single-in j j refl)
 
-    all : (k : ℕ) → Sum a k → T k ≡ true
+    all : (k : ℕ) → AssumedIn a k → T k ≡ true
     all = c T (λ q e. step j q own start e) (λ d q i t e. step d q (join-left _ _ d i) t e)
 
-    go : Sum (assume (join (commits-of a) (single j)) (aborts-of a)) k → T k ≡ true
-    go (inl e) = elim (join-cases _ _ k e) [ inl i ↦ all k (inl i) | inr i ↦ subst (λ x. T x ≡ true) (single-is j k i) start ]
+    go : AssumedIn (assume (join (commits-of a) (single j)) (aborts-of a)) k → T k ≡ true
+    go (inl e) = elim (join-cases _ _ k e) [ inl i ↦ all k (inl i) | inr i ↦ subst (λ x. T x ≡ true) (in-single j k i) start ]
     go (inr e) = all k (inr e)
 
 -- ---- the end of job k
 module _ (hs : List Holding) (k : ℕ) where
   -- k is none of a's commits, or waits for none
   abbrev pub Stops : Assumption → Type 0
-  Stops a = Com a k → (q : ℕ) → has (waits hs k) q ≡ true → ⊥
+  Stops a = CommitIn a k → (q : ℕ) → has (waits hs k) q ≡ true → ⊥
 
   abbrev with : (ℕ → Bool) → ℕ → Bool
   with T q = eqb q k || T q
@@ -122,46 +122,46 @@ module _ (hs : List Holding) (k : ℕ) where
   with-out : (T : ℕ → Bool) (q : ℕ) → (q ≡ k → ⊥) → with T q ≡ true → T q ≡ true
   with-out T q n h = elim (or-cases (eqb q k) (T q) h) [ inl e ↦ absurd (n (eqb-true q k e)) | inr e ↦ e ]
 
-  sum-settled : (a : Assumption) (q : ℕ) → Sum (settled k a) q → Sum a q × (q ≡ k → ⊥)
-  sum-settled a q (inl e) = let l = less _ k q e in (inl (l .0), l .1)
-  sum-settled a q (inr e) = let l = less _ k q e in (inr (l .0), l .1)
+  assumed-settled : (a : Assumption) (q : ℕ) → AssumedIn (settled k a) q → AssumedIn a q × (q ≡ k → ⊥)
+  assumed-settled a q (inl e) = let l = in-without-one _ k q e in (inl (l .0), l .1)
+  assumed-settled a q (inr e) = let l = in-without-one _ k q e in (inr (l .0), l .1)
 
   closes-with : (a : Assumption) (T : ℕ → Bool) → Stops a → Closes (rest k hs) (settled k a) T → Closes hs a (with T)
   closes-with a T s step c q i t e =
       with-in T q (λ n.
       elim (cases-eq c k) [
-        | inl same ↦ absurd (s (subst (Com a) same i) q (subst (λ x. has (waits hs x) q ≡ true) same e))
-        | inr m ↦ step c q (less-in _ k c i m) (with-out T c m t) (rest-waits k hs c q m n e)
+        | inl same ↦ absurd (s (subst (CommitIn a) same i) q (subst (λ x. has (waits hs x) q ≡ true) same e))
+        | inr m ↦ step c q (without-one-in _ k c i m) (with-out T c m t) (rest-waits k hs c q m n e)
       ])
 
   pub chained-settled : (j : ℕ) (a : Assumption) → (j ≡ k → ⊥) → Stops a → Chained hs j a → Chained (rest k hs) j (settled k a)
   unfolding Chained
   chained-settled j a m s c T start step q i =
-      let b = sum-settled a q i in
+      let b = assumed-settled a q i in
       with-out T q (b .1) (c (with T) (λ d e. with-in T d (λ n. start d (rest-waits k hs j d m n e))) (closes-with a T s step) q (b .0))
 
   pub linked-settled : (j : ℕ) (a : Assumption) → Stops a → Linked hs j a → Linked (rest k hs) j (settled k a)
   unfolding Linked
   linked-settled j a s c T start step q i =
-      let b = sum-settled a q i in
+      let b = assumed-settled a q i in
       with-out T q (b .1) (c (with T) (with-in T j (λ n. start)) (closes-with a T s step) q (b .0))
 
 -- ---- a job that waits for none assumes nothing
-pub free-none : (hs : List Holding) (j : ℕ) (a : Assumption) → Chained hs j a → waits hs j ≡ 0 → (k : ℕ) → Sum a k → ⊥
+pub waits-none-assumes-none : (hs : List Holding) (j : ℕ) (a : Assumption) → Chained hs j a → waits hs j ≡ 0 → (k : ℕ) → AssumedIn a k → ⊥
 unfolding Chained
-free-none hs j a c none k s =
+waits-none-assumes-none hs j a c none k s =
     both-ways false refl (c (λ q. false) (λ q e. none-in q (ap (λ n. has n q) (sym none) ∙ e)) (λ d q i t e. t) k s)
 
 -- and its versions assume only itself
-pub free-own : (hs : List Holding) (j : ℕ) (a : Assumption) → Linked hs j a → waits hs j ≡ 0 → (k : ℕ) → Sum a k → k ≡ j
+pub waits-none-assumes-itself : (hs : List Holding) (j : ℕ) (a : Assumption) → Linked hs j a → waits hs j ≡ 0 → (k : ℕ) → AssumedIn a k → k ≡ j
 unfolding Linked
-free-own hs j a c none k s =
+waits-none-assumes-itself hs j a c none k s =
     eqb-true k j (c (λ q. eqb q j) (eq-eqb j j refl) (λ d q i t e. none-in q (ap (λ n. has n q) (sym (ap (waits hs) (eqb-true d j t) ∙ none)) ∙ e)) k s)
 
 -- where the waits have no ring, no job assumes anything of itself: all that it assumes about is of lower rank
-pub not-own : (hs : List Holding) (rank : ℕ → ℕ) → ((a k : ℕ) → has (waits hs a) k ≡ true → rank k < rank a) → (j : ℕ) (a : Assumption) → Chained hs j a → Sum a j → ⊥
+pub never-assumes-itself : (hs : List Holding) (rank : ℕ → ℕ) → ((a k : ℕ) → has (waits hs a) k ≡ true → rank k < rank a) → (j : ℕ) (a : Assumption) → Chained hs j a → AssumedIn a j → ⊥
 unfolding Chained
-not-own hs rank falls j a c i =
+never-assumes-itself hs rank falls j a c i =
     let l = ltb-true _ _ (c (λ q. ltb (rank q) (rank j)) (λ q e. lt-ltb _ _ (falls j q e))
     (λ d q k t e. let u = ltb-true (rank d) (rank j) t in let v = falls d q e in lt-ltb _ _ (omega arith)) j i) in
     omega arith
@@ -169,12 +169,12 @@ not-own hs rank falls j a c i =
 -- ---- conflict
 -- some job is taken to commit by one and to abort by the other
 abbrev pub Conflict : Assumption → Assumption → Type 0
-Conflict a b = (k : ℕ) × ((Com a k × Abo b k) ⊎ (Abo a k × Com b k))
+Conflict a b = (k : ℕ) × ((CommitIn a k × AbortIn b k) ⊎ (AbortIn a k × CommitIn b k))
 
 -- b takes all that a takes
 pub record Within (a b : Assumption) : Type 0 where
-  pub onC : (k : ℕ) → Com a k → Com b k
-  pub onA : (k : ℕ) → Abo a k → Abo b k
+  pub onC : (k : ℕ) → CommitIn a k → CommitIn b k
+  pub onA : (k : ℕ) → AbortIn a k → AbortIn b k
 
 pub conflict-within : (a b c d : Assumption) → Within a c → Within b d → Conflict a b → Conflict c d
 conflict-within a b c d f g x = (x .0, elim (x .1) [ inl y ↦ inl (f .onC _ (y .0), g .onA _ (y .1)) | inr y ↦ inr (f .onA _ (y .0), g .onC _ (y .1)) ])
@@ -183,17 +183,17 @@ conflict-within a b c d f g x = (x .0, elim (x .1) [ inl y ↦ inl (f .onC _ (y 
 pub conflict-settled : (w : Ending) (k : ℕ) (a b : Assumption) → survives w k a ≡ true → survives w k b ≡ true → Conflict a b → Conflict (settled k a) (settled k b)
 conflict-settled w k a b s t x = (x .0, go w s t (x .1))
   where
-    go : (w : Ending) → survives w k a ≡ true → survives w k b ≡ true → (Com a (x .0) × Abo b (x .0)) ⊎ (Abo a (x .0) × Com b (x .0))
-        → (Com (settled k a) (x .0) × Abo (settled k b) (x .0)) ⊎ (Abo (settled k a) (x .0) × Com (settled k b) (x .0))
-    go Committed s t (inl y) = let n : x .0 ≡ k → ⊥ = λ e. both-ways _ (not-true _ t) (subst (Abo b) e (y .1)) in inl (less-in _ k _ (y .0) n, less-in _ k _ (y .1) n)
-    go Committed s t (inr y) = let n : x .0 ≡ k → ⊥ = λ e. both-ways _ (not-true _ s) (subst (Abo a) e (y .0)) in inr (less-in _ k _ (y .0) n, less-in _ k _ (y .1) n)
-    go Aborted s t (inl y) = let n : x .0 ≡ k → ⊥ = λ e. both-ways _ (not-true _ s) (subst (Com a) e (y .0)) in inl (less-in _ k _ (y .0) n, less-in _ k _ (y .1) n)
-    go Aborted s t (inr y) = let n : x .0 ≡ k → ⊥ = λ e. both-ways _ (not-true _ t) (subst (Com b) e (y .1)) in inr (less-in _ k _ (y .0) n, less-in _ k _ (y .1) n)
+    go : (w : Ending) → survives w k a ≡ true → survives w k b ≡ true → (CommitIn a (x .0) × AbortIn b (x .0)) ⊎ (AbortIn a (x .0) × CommitIn b (x .0))
+        → (CommitIn (settled k a) (x .0) × AbortIn (settled k b) (x .0)) ⊎ (AbortIn (settled k a) (x .0) × CommitIn (settled k b) (x .0))
+    go Committed s t (inl y) = let n : x .0 ≡ k → ⊥ = λ e. both-ways _ (not-true _ t) (subst (AbortIn b) e (y .1)) in inl (without-one-in _ k _ (y .0) n, without-one-in _ k _ (y .1) n)
+    go Committed s t (inr y) = let n : x .0 ≡ k → ⊥ = λ e. both-ways _ (not-true _ s) (subst (AbortIn a) e (y .0)) in inr (without-one-in _ k _ (y .0) n, without-one-in _ k _ (y .1) n)
+    go Aborted s t (inl y) = let n : x .0 ≡ k → ⊥ = λ e. both-ways _ (not-true _ s) (subst (CommitIn a) e (y .0)) in inl (without-one-in _ k _ (y .0) n, without-one-in _ k _ (y .1) n)
+    go Aborted s t (inr y) = let n : x .0 ≡ k → ⊥ = λ e. both-ways _ (not-true _ t) (subst (CommitIn b) e (y .1)) in inr (without-one-in _ k _ (y .0) n, without-one-in _ k _ (y .1) n)
 
 pub within-settled : (k : ℕ) (a b : Assumption) → Within a b → Within (settled k a) (settled k b)
 within-settled k a b f = record {
-  onC = λ q e. let l = less _ k q e in less-in _ k q (f .onC q (l .0)) (l .1);
-  onA = λ q e. let l = less _ k q e in less-in _ k q (f .onA q (l .0)) (l .1);
+  onC = λ q e. let l = in-without-one _ k q e in without-one-in _ k q (f .onC q (l .0)) (l .1);
+  onA = λ q e. let l = in-without-one _ k q e in without-one-in _ k q (f .onA q (l .0)) (l .1);
 }
 
 -- what is within a survivor survives

@@ -13,7 +13,6 @@ use Rattle.protocol.specs.declared.holdings.Holding.{Holding}
 use Rattle.protocol.specs.declared.assumptions.Execution.{Execution}
 use Rattle.protocol.specs.declared.assumptions.Version.{Version}
 use Rattle.terms.specs.declared.calls.Call.the-variants.{Lock}
-use Rattle.protocol.proofs.Runs.{Runs}
 use Rattle.protocol.specs.Holdings.{begins, makes, turned, jobs-of, makers, later-makers, spread}
 use Rattle.protocol.specs.Lists.{keep, In, Behind}
 use Rattle.protocol.specs.Model.{Model, executions-of, names}
@@ -23,19 +22,20 @@ use Rattle.protocol.specs.PlainRun.{Plain}
 use Rattle.protocol.specs.Step.{next}
 use Rattle.terms.specs.Rule.{Rule}
 use Rattle.protocol.specs.declared.assumptions.Offer.{Offer}
-use Rattle.protocol.proofs.PlaceLaws.{size-join, size-mono}
-use Rattle.protocol.proofs.Sets.{none-in, join-left, join-right, join-cases, less, less-in}
-use Rattle.protocol.proofs.Counts.{meet, meet-in, in-meet, apart-disjoint}
+use Rattle.protocol.specs.Ranks.{Acyclic}
+use Rattle.protocol.proofs.Running.{Runs}
+use Rattle.protocol.proofs.SetDigits.{size-join, size-mono}
+use Rattle.protocol.proofs.Membership.{none-in, join-left, join-right, join-cases, in-without-one, without-one-in}
+use Rattle.protocol.proofs.SetSizes.{meet, meet-in, in-meet, apart-disjoint}
 use Rattle.protocol.proofs.Lists.{keep-in, over-keep, over-append, append-left, append-right, map-in, each-in, behind-in}
 use Rattle.protocol.proofs.Reach.{spread-more, spread-next, spread-why}
-use Rattle.protocol.proofs.Assumed.{Sum, not-own}
-use Rattle.protocol.specs.Ranks.{Acyclic}
+use Rattle.protocol.proofs.Chains.{AssumedIn, never-assumes-itself}
 use Rattle.protocol.proofs.Accepted.{Locks}
-use Rattle.protocol.proofs.Makers.{Maker, makers-why, why-makers, after-makers, after-why, why-after}
-use Rattle.protocol.proofs.Shape.{Shape, runs-small, over-paired, over-offers}
-use Rattle.protocol.proofs.Assumes.{Assumes, pair-chain}
-use Rattle.protocol.proofs.Follows.{Follows}
-use Rattle.protocol.proofs.Relies.{Goes, Able, Relies}
+use Rattle.protocol.proofs.Makers.{Maker, makers-why, why-makers, later-makes, later-why, why-later}
+use Rattle.protocol.proofs.WellFormed.{WellFormed, runs-small, over-kept-pairs, over-offers}
+use Rattle.protocol.proofs.Consistent.{Consistent, pair-chain}
+use Rattle.protocol.proofs.Faithful.{Faithful}
+use Rattle.protocol.proofs.Covered.{GoesWith, ProvidedFor, Covered}
 
 -- ---- the last maker that commits
 -- in the way ab every maker of o aborts, or there is a last one that commits
@@ -59,11 +59,11 @@ last-maker o ab (h ∷ hs) once = go (last-maker o ab hs (λ g k i. once g k (in
       record { holding = w .1 .holding; there = inr (w .1 .there); job = w .1 .job; object = w .1 .object; turned = w .1 .turned },
       w .2,
       λ k e.
-          let y = after-why (h ∷ hs) o (w .0) k e in
+          let y = later-why (h ∷ hs) o (w .0) k e in
           let z = and-parts _ _ (y .3) in
           elim (y .2) [
             | inl i ↦ absurd (once h (w .1 .holding) (inl (refl, w .1 .there)) (ap (λ g. g .job) (i .0) ∙ eqb-true _ _ (z .0) ∙ sym (w .1 .job)) (ap (λ g. g .object) (i .0) ∙ eqb-true _ _ (z .1) ∙ sym (w .1 .object)))
-            | inr i ↦ w .3 k (subst (λ x. has (later-makers o (w .0) hs) x ≡ true) (y .4) (why-after hs o (w .0) (y .0) (y .1) i (y .3) (y .5) (y .6)))
+            | inr i ↦ w .3 k (subst (λ x. has (later-makers o (w .0) hs) x ≡ true) (y .4) (why-later hs o (w .0) (y .0) (y .1) i (y .3) (y .5) (y .6)))
           ],
     )
     go (inl f) = elim (cases-bool (makes o h)) [
@@ -77,7 +77,7 @@ last-maker o ab (h ∷ hs) once = go (last-maker o ab hs (λ g k i. once g k (in
               record { holding = h; there = inl refl; job = refl; object = eqb-true _ _ (z .0); turned = z .1 },
               d,
               λ k i.
-                  let y = after-why (h ∷ hs) o (h .job) k i in
+                  let y = later-why (h ∷ hs) o (h .job) k i in
                   f k (elim (y .2) [
                     | inl j ↦ why-makers hs o k (record { holding = y .1; there = j .1; job = y .4; object = y .5; turned = y .6 })
                     | inr j ↦ why-makers hs o k (record { holding = y .1; there = behind-in hs _ _ j .1; job = y .4; object = y .5; turned = y .6 })
@@ -86,7 +86,7 @@ last-maker o ab (h ∷ hs) once = go (last-maker o ab hs (λ g k i. once g k (in
       ]
     ]
 
-module _ (r : Rule) (m : Model) (s : Plain) (p o : ℕ) (mode : Mode) (relied gone : ℕ → ℕ) (b : Locks m p o mode) (sh : Shape m) (x : Assumes m) (f : Follows r m s) (y : Relies m relied gone)
+module _ (r : Rule) (m : Model) (s : Plain) (p o : ℕ) (mode : Mode) (relied gone : ℕ → ℕ) (b : Locks m p o mode) (sh : WellFormed m) (x : Consistent m) (f : Faithful r m s) (y : Covered m relied gone)
     (c′ : Acyclic (m .holdings ++ record { job = p; object = o; state = begins mode } ∷ [])) where
   abbrev mk : ℕ
   mk = makers o (m .holdings)
@@ -109,15 +109,15 @@ module _ (r : Rule) (m : Model) (s : Plain) (p o : ℕ) (mode : Mode) (relied go
   -- what p relies on now has what it relied on, the makers, and what these rely on
   from-old : (q k : ℕ) → Runs m q → has (relied q) k ≡ true → has (grown q) k ≡ true
   from-old q k h i = elim (cases-eq q p) [
-    | inl e ↦ subst (λ n. has n k ≡ true) (sym (grown-own q e)) (less-in _ p k (join-left _ _ k (subst (λ z. has (relied z) k ≡ true) e i)) (λ z. y .running q h k i .1 (z ∙ sym e)))
+    | inl e ↦ subst (λ n. has n k ≡ true) (sym (grown-own q e)) (without-one-in _ p k (join-left _ _ k (subst (λ z. has (relied z) k ≡ true) e i)) (λ z. y .running q h k i .1 (z ∙ sym e)))
     | inr n ↦ subst (λ z. has z k ≡ true) (sym (grown-other q n)) i
   ]
 
   from-maker : (k : ℕ) → has mk k ≡ true → has (grown p) k ≡ true
-  from-maker k i = subst (λ n. has n k ≡ true) (sym (grown-own p refl)) (less-in _ p k (join-right _ _ k (spread-more relied 16 mk k i)) (maker-runs k i .1))
+  from-maker k i = subst (λ n. has n k ≡ true) (sym (grown-own p refl)) (without-one-in _ p k (join-right _ _ k (spread-more relied 16 mk k i)) (maker-runs k i .1))
 
   from-beyond : (q k : ℕ) → has mk q ≡ true → has (relied q) k ≡ true → (k ≡ p → ⊥) → has (grown p) k ≡ true
-  from-beyond q k i j n = subst (λ z. has z k ≡ true) (sym (grown-own p refl)) (less-in _ p k (join-right _ _ k (spread-next relied 16 mk q k (runs-small m sh q (maker-runs q i .0)) i j)) n)
+  from-beyond q k i j n = subst (λ z. has z k ≡ true) (sym (grown-own p refl)) (without-one-in _ p k (join-right _ _ k (spread-next relied 16 mk q k (runs-small m sh q (maker-runs q i .0)) i j)) n)
 
   maker-of : (v : Version) → In v (m .versions) → v .object ≡ o → Maker (m .holdings) o (v .maker)
   maker-of v i e = let w = sh .made-by v i in record { holding = w .0; there = w .1; job = w .2; object = w .3 ∙ e; turned = w .4 }
@@ -128,16 +128,16 @@ module _ (r : Rule) (m : Model) (s : Plain) (p o : ℕ) (mode : Mode) (relied go
       (λ k n. elim [ inl e ↦ none-in k e | inr e ↦ from-maker k e ])
       (λ v i d k n.
       let mv = why-makers (m .holdings) o (v .maker) (maker-of v i d) in
-      let by-version : Sum (v .assumption) k → has (grown p) k ≡ true =
-      λ t. elim (y .v-relied v i k t) [ inl e ↦ subst (λ q. has (grown p) q ≡ true) (sym e) (from-maker (v .maker) mv) | inr e ↦ from-beyond (v .maker) k mv e n ] in
-      elim [ inl e ↦ by-version (inl e) | inr e ↦ elim (join-cases _ _ k e) [ inl g ↦ by-version (inr g) | inr g ↦ from-maker k (after-makers (m .holdings) o (v .maker) k g) ] ])
+      let by-version : AssumedIn (v .assumption) k → has (grown p) k ≡ true =
+      λ t. elim (y .version-relied v i k t) [ inl e ↦ subst (λ q. has (grown p) q ≡ true) (sym e) (from-maker (v .maker) mv) | inr e ↦ from-beyond (v .maker) k mv e n ] in
+      elim [ inl e ↦ by-version (inl e) | inr e ↦ elim (join-cases _ _ k e) [ inl g ↦ by-version (inr g) | inr g ↦ from-maker k (later-makes (m .holdings) o (v .maker) k g) ] ])
 
   -- a job that is able now was able before
-  able-old : (k ab : ℕ) → Able (next r m (Lock p o mode) .executions) k ab → Able (m .executions) k ab
+  able-old : (k ab : ℕ) → ProvidedFor (next r m (Lock p o mode) .executions) k ab → ProvidedFor (m .executions) k ab
   unfolding next
-  able-old k ab a = over-append (λ e. e .job ≡ k → Goes (e .assumption) ab → Able (m .executions) k ab) (keep (λ e. not (names p e)) (m .executions)) (kept-pairs r m p o mode)
+  able-old k ab a = over-append (λ e. e .job ≡ k → GoesWith (e .assumption) ab → ProvidedFor (m .executions) k ab) (keep (λ e. not (names p e)) (m .executions)) (kept-pairs r m p o mode)
       (over-keep _ _ (m .executions) (λ e i t j g. (e, i, j, g)))
-      (over-paired _ r m p o mode (λ e i j z l t d g. (e, i, d, record { onC = λ q c. g .onC q (join-left _ _ q c); onA = λ q c. g .onA q (join-left _ _ q c) })))
+      (over-kept-pairs _ r m p o mode (λ e i j z l t d g. (e, i, d, record { onC = λ q c. g .onC q (join-left _ _ q c); onA = λ q c. g .onA q (join-left _ _ q c) })))
       (a .0) (a .1) (a .2) (a .3)
 
   in-paired : (e : Execution) → In e (m .executions) → e .job ≡ p → (z : Offer) → In z (offers m o) → is-kept (m .robustness) (pairing r m p o mode e z) ≡ true → In (pairing r m p o mode e z) (kept-pairs r m p o mode)
@@ -147,7 +147,7 @@ module _ (r : Rule) (m : Model) (s : Plain) (p o : ℕ) (mode : Mode) (relied go
       (keep-in (is-kept (m .robustness)) (map (pairing r m p o mode e) (offers m o)) (pairing r m p o mode e z) (map-in (pairing r m p o mode e) (offers m o) z l) t)
 
   -- an offer that goes with ab, where each maker that commits in it is able
-  good-offer : (ab : ℕ) → ((q : ℕ) → has mk q ≡ true → has ab q ≡ false → Able (m .executions) q ab) → (z : Offer) × In z (offers m o) × Goes (z .assumption) ab
+  good-offer : (ab : ℕ) → ((q : ℕ) → has mk q ≡ true → has ab q ≡ false → ProvidedFor (m .executions) q ab) → (z : Offer) × In z (offers m o) × GoesWith (z .assumption) ab
   unfolding offers
   good-offer ab able = elim (last-maker o ab (m .holdings) (sh .once)) [
     | inl all ↦ (stored-offer m o, inl refl, record { onC = λ k c. none-in k c; onA = all })
@@ -169,33 +169,33 @@ module _ (r : Rule) (m : Model) (s : Plain) (p o : ℕ) (mode : Mode) (relied go
     e′ = pairing r m p o mode e z
 
     -- p assumes nothing of itself
-    not-p : (k : ℕ) → Sum (e′ .assumption) k → k ≡ p → ⊥
-    not-p k t q = not-own _ (c′ .rank) (c′ .falls) p (e′ .assumption) (pair-chain r m p o mode b sh x e i j z l) (subst (Sum (e′ .assumption)) q t)
+    not-p : (k : ℕ) → AssumedIn (e′ .assumption) k → k ≡ p → ⊥
+    not-p k t q = never-assumes-itself _ (c′ .rank) (c′ .falls) p (e′ .assumption) (pair-chain r m p o mode b sh x e i j z l) (subst (AssumedIn (e′ .assumption)) q t)
 
-    by-old : (k : ℕ) → Sum (e .assumption) k → has (grown p) k ≡ true
-    by-old k t = from-old p k (b .runs) (subst (λ q. has (relied q) k ≡ true) j (y .e-relied e i k t))
+    by-old : (k : ℕ) → AssumedIn (e .assumption) k → has (grown p) k ≡ true
+    by-old k t = from-old p k (b .runs) (subst (λ q. has (relied q) k ≡ true) j (y .execution-relied e i k t))
 
-    pair-relied : (k : ℕ) → Sum (e′ .assumption) k → has (grown p) k ≡ true
+    pair-relied : (k : ℕ) → AssumedIn (e′ .assumption) k → has (grown p) k ≡ true
     pair-relied k t = go t (not-p k t)
       where
-        go : Sum (e′ .assumption) k → (k ≡ p → ⊥) → has (grown p) k ≡ true
+        go : AssumedIn (e′ .assumption) k → (k ≡ p → ⊥) → has (grown p) k ≡ true
         go (inl c) n = elim (join-cases _ _ k c) [ inl d ↦ by-old k (inl d) | inr d ↦ offer-relied z l k n (inl d) ]
         go (inr c) n = elim (join-cases _ _ k c) [ inl d ↦ by-old k (inr d) | inr d ↦ offer-relied z l k n (inr d) ]
 
     pair-counted : e′ .tally ≤ gone (e .job) + size (aborts-of (e′ .assumption))
     pair-counted = omega (arith, y .counted e i, size-join (aborts-of (e .assumption)) (aborts-of (z .assumption)))
 
-    pair-able : (ab : ℕ) → Goes (e .assumption) ab → Goes (z .assumption) ab → gone p + size (meet (grown p) ab) ≤ m .robustness → (is-kept (m .robustness) e′ ≡ true) × Goes (e′ .assumption) ab
+    pair-able : (ab : ℕ) → GoesWith (e .assumption) ab → GoesWith (z .assumption) ab → gone p + size (meet (grown p) ab) ≤ m .robustness → (is-kept (m .robustness) e′ ≡ true) × GoesWith (e′ .assumption) ab
     pair-able ab g h few =
-        let goes : Goes (e′ .assumption) ab = record {
+        let goes : GoesWith (e′ .assumption) ab = record {
           onC = λ k c. elim (join-cases _ _ k c) [ inl d ↦ g .onC k d | inr d ↦ h .onC k d ];
           onA = λ k c. elim (join-cases _ _ k c) [ inl d ↦ g .onA k d | inr d ↦ h .onA k d ];
         } in
         let most : size (aborts-of (e′ .assumption)) ≤ size (meet (grown p) ab) = size-mono _ _ (λ k c. meet-in (grown p) ab k (pair-relied k (inr c)) (goes .onA k c)) in
         (and-from _ _ (apart-disjoint _ _ (λ k c d. both-ways _ (goes .onC k c) (goes .onA k d))) (le-leb _ _ (omega (arith, pair-counted, ap gone j))), goes)
 
-  complete-own : (ab : ℕ) → ((k : ℕ) → has (grown p) k ≡ true → has ab k ≡ false → Able (next r m (Lock p o mode) .executions) k ab) → gone p + size (meet (grown p) ab) ≤ m .robustness
-      → Able (next r m (Lock p o mode) .executions) p ab
+  complete-own : (ab : ℕ) → ((k : ℕ) → has (grown p) k ≡ true → has ab k ≡ false → ProvidedFor (next r m (Lock p o mode) .executions) k ab) → gone p + size (meet (grown p) ab) ≤ m .robustness
+      → ProvidedFor (next r m (Lock p o mode) .executions) p ab
   unfolding next
   complete-own ab able few =
       let fewer : size (meet (relied p) ab) ≤ size (meet (grown p) ab) = size-mono _ _ (λ k h. let w = in-meet (relied p) ab k h in meet-in (grown p) ab k (from-old p k (b .runs) (w .0)) (w .1)) in
@@ -204,12 +204,12 @@ module _ (r : Rule) (m : Model) (s : Plain) (p o : ℕ) (mode : Mode) (relied go
       let g = pair-able (a .0) (a .1) (a .2) (z .0) (z .1) ab (a .3) (z .2) few in
       (pairing r m p o mode (a .0) (z .0), append-right (keep (λ e. not (names p e)) (m .executions)) _ _ (in-paired (a .0) (a .1) (a .2) (z .0) (z .1) (g .0)), a .2, g .1)
 
-  pub relies-lock : Relies (next r m (Lock p o mode)) grown gone
+  pub covered-lock : Covered (next r m (Lock p o mode)) grown gone
   unfolding next
-  relies-lock = record {
+  covered-lock = record {
     running = λ q h k i. elim (cases-eq q p) [
       | inl e ↦
-          let w = less _ p k (subst (λ n. has n k ≡ true) (grown-own q e) i) in (
+          let w = in-without-one _ p k (subst (λ n. has n k ≡ true) (grown-own q e) i) in (
             elim (join-cases _ _ k (w .0)) [
               | inl d ↦ y .running p (b .runs) k d .0
               | inr d ↦ elim (spread-why relied 16 mk k d) [ inl u ↦ maker-runs k u .0 | inr u ↦ y .running (u .0) (maker-runs (u .0) (u .2) .0) k (u .3) .0 ]
@@ -218,16 +218,16 @@ module _ (r : Rule) (m : Model) (s : Plain) (p o : ℕ) (mode : Mode) (relied go
           )
       | inr n ↦ y .running q h k (subst (λ z. has z k ≡ true) (grown-other q n) i)
     ];
-    e-relied = over-append (λ e. (k : ℕ) → Sum (e .assumption) k → has (grown (e .job)) k ≡ true) (keep (λ e. not (names p e)) (m .executions)) (kept-pairs r m p o mode)
-        (over-keep _ _ (m .executions) (λ e i t k c. from-old (e .job) k (sh .worked-by e i .0) (y .e-relied e i k c)))
-        (over-paired _ r m p o mode (λ e i j z l t k c. subst (λ q. has (grown q) k ≡ true) (sym j) (pair-relied e i j z l k c)));
-    v-relied = λ v i k c. let h = sh .made-by v i in
-        elim (y .v-relied v i k c) [ inl e ↦ inl e | inr e ↦ inr (from-old (v .maker) k (subst (Runs m) (h .2) (sh .held-by (h .0) (h .1) .0)) e) ];
+    execution-relied = over-append (λ e. (k : ℕ) → AssumedIn (e .assumption) k → has (grown (e .job)) k ≡ true) (keep (λ e. not (names p e)) (m .executions)) (kept-pairs r m p o mode)
+        (over-keep _ _ (m .executions) (λ e i t k c. from-old (e .job) k (sh .worked-by e i .0) (y .execution-relied e i k c)))
+        (over-kept-pairs _ r m p o mode (λ e i j z l t k c. subst (λ q. has (grown q) k ≡ true) (sym j) (pair-relied e i j z l k c)));
+    version-relied = λ v i k c. let h = sh .made-by v i in
+        elim (y .version-relied v i k c) [ inl e ↦ inl e | inr e ↦ inr (from-old (v .maker) k (subst (Runs m) (h .2) (sh .held-by (h .0) (h .1) .0)) e) ];
     counted = over-append (λ e. e .tally ≤ gone (e .job) + size (aborts-of (e .assumption))) (keep (λ e. not (names p e)) (m .executions)) (kept-pairs r m p o mode)
         (over-keep _ _ (m .executions) (λ e i t. y .counted e i))
-        (over-paired _ r m p o mode (λ e i j z l t. pair-counted e i j z l));
+        (over-kept-pairs _ r m p o mode (λ e i j z l t. pair-counted e i j z l));
     complete = λ q h ab able few. elim (cases-eq q p) [
-      | inl e ↦ subst (λ x. Able (next r m (Lock p o mode) .executions) x ab) (sym e) (complete-own ab (λ k i u. able k (subst (λ x. has (grown x) k ≡ true) (sym e) i) u) (subst (λ x. gone x + size (meet (grown x) ab) ≤ m .robustness) e few))
+      | inl e ↦ subst (λ x. ProvidedFor (next r m (Lock p o mode) .executions) x ab) (sym e) (complete-own ab (λ k i u. able k (subst (λ x. has (grown x) k ≡ true) (sym e) i) u) (subst (λ x. gone x + size (meet (grown x) ab) ≤ m .robustness) e few))
       | inr n ↦
           let a = y .complete q h ab (λ k i u. able-old k ab (able k (from-old q k h i) u)) (omega (arith, few, ap (λ x. size (meet x ab)) (grown-other q n))) in
           (a .0, append-left (keep (λ e. not (names p e)) (m .executions)) _ _ (keep-in _ (m .executions) (a .0) (a .1) (ap not (ne-eqb _ _ (λ z. n (sym (a .2) ∙ z))))), a .2, a .3)

@@ -1,19 +1,18 @@
 -- The set of jobs that a job waits for is the relation of specs/Waiting, and how a lock, an image and an end change it.
 use mathlib.Core.Path.{_≡_, refl, sym, ap, _∙_, subst}
-use mathlib.Core.Bool.{Bool, true, false, not, cond, _&&_}
+use mathlib.Core.Bool.{Bool, true, not, cond, _&&_}
 use mathlib.Core.Logic.{_⊎_, inl, inr}
 use mathlib.Core.List.{List, [], _∷_, _++_, map}
 use Prim.Native.Nat.{ℕ}
 use lib.Dec.{eqb}
 use Rattle.std.proofs.shelf.Tests.{eqb-true, eqb-false, eq-eqb, ne-eqb, and-parts, and-from, not-true}
-use Rattle.protocol.specs.declared.holdings.HoldingState.{HoldingState}
-use Rattle.protocol.specs.declared.holdings.HoldingState.the-variants.{Reading, Open, Turned}
 use Rattle.protocol.specs.declared.holdings.Holding.{Holding}
-use Rattle.protocol.specs.Holdings.{clash, holds, reading, turn, turn-state, jobs-of, waits, new-waits}
+use Rattle.protocol.specs.Holdings.{clash, holds, turn, jobs-of, waits, new-waits}
 use Rattle.protocol.specs.Lists.{keep, any, In, Behind}
 use Rattle.protocol.specs.Places.{has, single}
 use Rattle.protocol.specs.Waiting.{Waits-for}
-use Rattle.protocol.proofs.Sets.{none-in, join-left, join-right, join-cases, single-is, single-in, cond-in, in-cond}
+use Rattle.protocol.proofs.Membership.{none-in, join-left, join-right, join-cases, in-single, single-in, cond-in, in-cond}
+use Rattle.protocol.proofs.HoldingStates.{reading-turn}
 use Rattle.protocol.proofs.Lists.{any-in, in-any, behind-append, behind-last, push-cases, in-keep-behind, keep-behind, in-map-behind, map-behind}
 
 -- who is among the jobs of some holdings has such a holding, and the other way round
@@ -24,7 +23,7 @@ jobs-in t (h ∷ hs) q e = go (join-cases _ _ q e) (jobs-in t hs q)
   where
     go : (has (cond (t h) (single (h .job)) 0) q ≡ true) ⊎ (has (jobs-of t hs) q ≡ true)
         → (has (jobs-of t hs) q ≡ true → (g : Holding) × In g hs × (t g ≡ true) × (g .job ≡ q)) → (g : Holding) × In g (h ∷ hs) × (t g ≡ true) × (g .job ≡ q)
-    go (inl i) rec = let c = cond-in (t h) _ q i in (h, inl refl, c .0, single-is _ _ (c .1))
+    go (inl i) rec = let c = cond-in (t h) _ q i in (h, inl refl, c .0, in-single _ _ (c .1))
     go (inr i) rec = let r = rec i in (r .0, inr (r .1), r .2, r .3)
 
 pub in-jobs : (t : Holding → Bool) (hs : List Holding) (h : Holding) → In h hs → t h ≡ true → has (jobs-of t hs) (h .job) ≡ true
@@ -46,7 +45,7 @@ waits-why (g ∷ hs) p q e = go (join-cases _ _ q e) (waits-why hs p q)
         let d = and-parts _ _ (c .0) in
         let a = any-in (λ h. eqb (h .job) p && clash g h) hs (d .1) in
         let b = and-parts _ _ (a .2) in
-        let same = single-is _ _ (c .1) in
+        let same = in-single _ _ (c .1) in
         record {
           earlier = g;
           later = a .0;
@@ -96,9 +95,9 @@ waits-more hs h p q e =
     let w = waits-why hs p q e in
     why-waits _ p q (record { earlier = w .earlier; later = w .later; order = behind-append hs _ _ _ (w .order); of = w .of; by = w .by; other = w .other; why = w .why })
 
-pub direct-waits : (hs : List Holding) (h : Holding) (q : ℕ) → has (new-waits hs h) q ≡ true → has (waits (hs ++ h ∷ []) (h .job)) q ≡ true
+pub new-waits-wait : (hs : List Holding) (h : Holding) (q : ℕ) → has (new-waits hs h) q ≡ true → has (waits (hs ++ h ∷ []) (h .job)) q ≡ true
 unfolding new-waits
-direct-waits hs h q e =
+new-waits-wait hs h q e =
     let j = jobs-in _ hs q e in
     let b = and-parts _ _ (j .2) in
     why-waits _ _ q (record {
@@ -112,12 +111,6 @@ direct-waits hs h q e =
     })
 
 -- ---- an open holding that is turned
-reading-turn : (b : Bool) (s : HoldingState) → reading (turn-state b s) ≡ reading s
-reading-turn true Reading = refl
-reading-turn true Open = refl
-reading-turn true Turned = refl
-reading-turn false s = refl
-
 clash-turn : (p o : ℕ) (g h : Holding) → clash (turn p o g) (turn p o h) ≡ clash g h
 clash-turn p o g h = λ i. eqb (g .object) (h .object) && not (reading-turn (holds p o g) (g .state) i && reading-turn (holds p o h) (h .state) i)
 

@@ -15,11 +15,11 @@ use Rattle.protocol.specs.RingTest.{Ring-test, No-ring, Of-places}
 use Rattle.protocol.specs.Step.{run}
 use Rattle.protocol.specs.Waiting.{Waits-for, Waits-through, directly, through}
 use Rattle.protocol.specs.Ranks.{Acyclic}
-use Rattle.protocol.proofs.Acyclic.{waited-small}
-use Rattle.protocol.proofs.Always.{sound}
-use Rattle.protocol.proofs.LawA.{small}
+use Rattle.protocol.proofs.Ranks.{waited-small}
+use Rattle.protocol.proofs.Always.{lawful}
+use Rattle.protocol.proofs.Invariant.{of-places}
 use Rattle.protocol.proofs.Reach.{spread-why, reach-closed, reach-more}
-use Rattle.protocol.proofs.Waits.{waits-why, why-waits, waits-push, waits-more, direct-waits}
+use Rattle.protocol.proofs.Waiting.{waits-why, why-waits, waits-push, waits-more, new-waits-wait}
 
 -- a rank that falls along waits shuts out a ring
 falls-through : (hs : List Holding) (c : Acyclic hs) (p q : ℕ) → Waits-through hs p q → c .rank q < c .rank p
@@ -56,7 +56,7 @@ found hs h e = elim (reached-rounds hs 17 (new-waits hs h) (h .job) e) [
 ]
   where
     first : (k : ℕ) → has (new-waits hs h) k ≡ true → Waits-for (hs ++ h ∷ []) (h .job) k
-    first k i = waits-why _ (h .job) k (direct-waits hs h k i)
+    first k i = waits-why _ (h .job) k (new-waits-wait hs h k i)
 
 module _ (hs : List Holding) (h : Holding) (small : Of-places hs) where
   reaches : ℕ → Type 0
@@ -93,8 +93,8 @@ exact hs h small none = (found hs h, finds hs h small none)
 kept : (r : Rule) (robustness limit : ℕ) (first : List ℕ) (cs : List Call) → Of-places (run r (new robustness limit first) cs .holdings) × No-ring (run r (new robustness limit first) cs .holdings)
 kept r robustness limit first cs =
     let m = run r (new robustness limit first) cs in
-    let i = sound r robustness limit first cs in
-    (small m (i .1 .shape), no-ring (m .holdings) (i .1 .acyclic))
+    let i = lawful r robustness limit first cs in
+    (of-places m (i .1 .well-formed), no-ring (m .holdings) (i .1 .acyclic))
 
 pub ring-test : Ring-test
 ring-test = record { exact = exact; kept = kept }

@@ -14,15 +14,12 @@ use Rattle.protocol.specs.Holdings.{waits, new-waits, reach}
 use Rattle.protocol.specs.Lists.{In}
 use Rattle.protocol.specs.Places.{has, single, join}
 use Rattle.protocol.specs.Ranks.{Acyclic}
-use Rattle.protocol.proofs.PlaceLaws.{empty}
-use Rattle.protocol.proofs.Sets.{none-in}
+use Rattle.protocol.specs.RingTest.{Of-places}
+use Rattle.protocol.proofs.SetDigits.{empty}
+use Rattle.protocol.proofs.Membership.{none-in}
 use Rattle.protocol.proofs.Lists.{behind-in}
-use Rattle.protocol.proofs.Waits.{waits-why, waits-push}
+use Rattle.protocol.proofs.Waiting.{waits-why, waits-push}
 use Rattle.protocol.proofs.Reach.{reach-closed, reach-more}
-
--- holdings are of jobs at the sixteen places
-abbrev pub Small : List Holding → Type 0
-Small hs = (h : Holding) → In h hs → h .job < 16
 
 pub acyclic-none : Acyclic []
 unfolding waits
@@ -32,14 +29,14 @@ acyclic-none = record { rank = λ k. 0; bound = 0; below = λ k. omega arith; fa
 pub acyclic-fewer : (hs gs : List Holding) → ((a k : ℕ) → has (waits gs a) k ≡ true → has (waits hs a) k ≡ true) → Acyclic hs → Acyclic gs
 acyclic-fewer hs gs f c = record { rank = c .rank; bound = c .bound; below = c .below; falls = λ a k e. c .falls a k (f a k e) }
 
-pub waited-small : (hs : List Holding) → Small hs → (a k : ℕ) → has (waits hs a) k ≡ true → (a < 16) × (k < 16)
+pub waited-small : (hs : List Holding) → Of-places hs → (a k : ℕ) → has (waits hs a) k ≡ true → (a < 16) × (k < 16)
 waited-small hs s a k e =
     let w = waits-why hs a k e in
     let i = behind-in hs _ _ (w .order) in
     (subst (λ x. x < 16) (w .by) (s _ (i .1)), subst (λ x. x < 16) (w .of) (s _ (i .0)))
 
 -- a lock that passes the test for a ring: what the new holding makes the job wait for keeps its rank, and all others are lifted over it
-pub acyclic-push : (hs : List Holding) (h : Holding) → Small hs → has (reach (waits hs) (new-waits hs h)) (h .job) ≡ false → Acyclic hs → Acyclic (hs ++ h ∷ [])
+pub acyclic-push : (hs : List Holding) (h : Holding) → Of-places hs → has (reach (waits hs) (new-waits hs h)) (h .job) ≡ false → Acyclic hs → Acyclic (hs ++ h ∷ [])
 acyclic-push hs h s ring c = record {
   rank = rank′;
   bound = c .bound + suc (c .bound);
@@ -80,7 +77,7 @@ acyclic-push hs h s ring c = record {
     new a k e i = apart (has T a) (has T k) a k (ap (has T) e ∙ ring) i
 
 -- ---- a job that waits for none
-waits-below : (hs : List Holding) (p : ℕ) → Small hs → waits hs p < 2 ^ 16
+waits-below : (hs : List Holding) (p : ℕ) → Of-places hs → waits hs p < 2 ^ 16
 unfolding waits join single
 waits-below [] p s = pow-pos 16
 waits-below (g ∷ hs) p s = or-lt 16 _ _ (go _) (waits-below hs p (λ h i. s h (inr i)))
@@ -101,7 +98,7 @@ find m (suc n) =
     ]
 
 -- from a job, by waits, to one that waits for none
-pub free : (hs : List Holding) → Small hs → (c : Acyclic hs) (n p : ℕ) → c .rank p < n → (q : ℕ) × (waits hs q ≡ 0) × ((q ≡ p) ⊎ ((h : Holding) × In h hs × (h .job ≡ q)))
+pub free : (hs : List Holding) → Of-places hs → (c : Acyclic hs) (n p : ℕ) → c .rank p < n → (q : ℕ) × (waits hs q ≡ 0) × ((q ≡ p) ⊎ ((h : Holding) × In h hs × (h .job ≡ q)))
 free hs s c zero p l = absurd (omega arith)
 free hs s c (suc n) p l =
     elim (find (waits hs p) 16) [

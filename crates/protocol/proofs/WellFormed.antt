@@ -1,28 +1,20 @@
 -- The records of the book fit together: each names a job that runs, a job holds an object once, and nothing is held behind an open holding.
 -- Every call keeps it.
 use mathlib.Core.Path.{_≡_, refl, sym, ap, _∙_, subst}
-use mathlib.Core.Bool.{Bool, true, false, not, _&&_}
+use mathlib.Core.Bool.{true, not}
 use mathlib.Core.Logic.{inl, inr}
-use mathlib.Core.List.{List, [], _∷_, map}
+use mathlib.Core.List.{List, map}
 use Prim.Native.Nat.{ℕ, _<_}
 use native.Mathlib.Omega.{arith}
-use lib.Dec.{eqb}
-use lib.ListN.{length, getD, set, length-set, List·getD-eq-default}
-use lib.Seq.{getD-set-same, getD-set-other}
-use Rattle.std.specs.declared.option.Option.{Option}
+use lib.ListN.{length, set, length-set, List·getD-eq-default}
 use Rattle.std.specs.declared.option.Option.the-variants.{Some, None}
-use Rattle.std.proofs.shelf.Tests.{false≢true, cases-eq, cases-lt, eqb-true, eqb-false, ne-eqb, eq-eqb, not-true, and-parts, and-from}
-use Rattle.protocol.specs.declared.holdings.HoldingState.{HoldingState}
-use Rattle.protocol.specs.declared.holdings.HoldingState.the-variants.{Reading, Open, Turned}
+use Rattle.std.proofs.shelf.Tests.{false≢true, cases-lt, eqb-true, eqb-false, ne-eqb, eq-eqb, not-true, and-parts, and-from}
 use Rattle.terms.specs.declared.modes.Mode.{Mode}
 use Rattle.protocol.specs.declared.holdings.Holding.{Holding}
 use Rattle.protocol.specs.declared.assumptions.Execution.{Execution}
 use Rattle.protocol.specs.declared.assumptions.Version.{Version}
-use Rattle.protocol.specs.declared.jobs.Job.{Job}
 use Rattle.terms.specs.declared.calls.Call.the-variants.{Begin, Lock, Image}
-use Rattle.protocol.proofs.Runs.{Runs}
-use Rattle.protocol.specs.Ending.{written, made-value}
-use Rattle.protocol.specs.Holdings.{holds, turned, opened, turn, turn-state}
+use Rattle.protocol.specs.Holdings.{holds, turned, opened, turn}
 use Rattle.protocol.specs.Lists.{keep, is-some, In, Behind}
 use Rattle.protocol.specs.Model.{Model, new, executions-of, names, holding-count}
 use Rattle.protocol.specs.Pairing.{offers, kept-pairs, pairing, is-kept, offer, stored-offer}
@@ -31,10 +23,12 @@ use Rattle.protocol.specs.Step.{next}
 use Rattle.terms.specs.Rule.{Rule}
 use Rattle.protocol.specs.declared.assumptions.Offer.{Offer}
 use Rattle.protocol.specs.declared.jobs.Ending.{Ending}
+use Rattle.protocol.proofs.Running.{Runs, RunsIn, runs-begun, begun-runs, runs-ended}
+use Rattle.protocol.proofs.HoldingStates.{opened-turn, turned-turn, open-turns}
 use Rattle.protocol.proofs.Lists.{in-keep, keep-in, over-keep, over-append, over-push, map-in, over-map, over-each, append-left, push-cases, in-keep-behind, in-map-behind}
 use Rattle.protocol.proofs.Accepted.{Begins, Locks, Images}
 
-pub record Shape (m : Model) : Type 0 where
+pub record WellFormed (m : Model) : Type 0 where
   -- there are sixteen places
   pub places : length (m .jobs) ≡ 16
   -- who holds runs, and what is held is an object
@@ -48,43 +42,21 @@ pub record Shape (m : Model) : Type 0 where
   -- an open holding is the last of its object
   pub last : (g h : Holding) → Behind g h (m .holdings) → g .object ≡ h .object → opened (g .state) ≡ true → ⊥
 
--- ---- the list of jobs
-abbrev RunsIn : List (Option Job) → ℕ → Type 0
-RunsIn js p = is-some (getD js p None) ≡ true
-
-pub runs-small : (m : Model) → Shape m → (p : ℕ) → Runs m p → p < 16
+pub runs-small : (m : Model) → WellFormed m → (p : ℕ) → Runs m p → p < 16
 runs-small m s p h =
     elim (cases-lt p 16) [
       | inl l ↦ l
       | inr l ↦ absurd (false≢true (sym (ap is-some (List·getD-eq-default (m .jobs) None {n = p} (omega (arith, s .places)))) ∙ h))
     ]
 
-pub runs-begun : (js : List (Option Job)) (p q : ℕ) (j : Job) → p < length js → RunsIn js q → RunsIn (set js p (Some j)) q
-runs-begun js p q j l h =
-    elim (cases-eq q p) [
-      | inl e ↦ subst (λ x. RunsIn (set js p (Some j)) x) (sym e) (ap is-some (getD-set-same js p (Some j) None l))
-      | inr n ↦ ap is-some (getD-set-other js p q (Some j) None n) ∙ h
-    ]
-
-pub begun-runs : (js : List (Option Job)) (p : ℕ) (j : Job) → p < length js → RunsIn (set js p (Some j)) p
-begun-runs js p j l = ap is-some (getD-set-same js p (Some j) None l)
-
-pub runs-ended : (js : List (Option Job)) (k q : ℕ) → (q ≡ k → ⊥) → RunsIn js q → RunsIn (set js k None) q
-runs-ended js k q n h = ap is-some (getD-set-other js k q None None n) ∙ h
-
-pub ended-runs : (js : List (Option Job)) (k q : ℕ) → k < length js → RunsIn (set js k None) q → RunsIn js q × (q ≡ k → ⊥)
-ended-runs js k q l h =
-    let n : q ≡ k → ⊥ = λ e. false≢true (sym (ap is-some (getD-set-same js k None None l)) ∙ subst (λ x. RunsIn (set js k None) x) e h) in
-    (sym (ap is-some (getD-set-other js k q None None n)) ∙ h, n)
-
 -- ---- a new book, and a begin
-pub shape-new : (r l : ℕ) (values : List ℕ) → Shape (new r l values)
+pub well-formed-new : (r l : ℕ) (values : List ℕ) → WellFormed (new r l values)
 unfolding new
-shape-new r l values = record { places = refl; held-by = λ h i. absurd i; worked-by = λ e i. absurd i; made-by = λ v i. absurd i; once = λ g h i. absurd i; last = λ g h i. absurd i }
+well-formed-new r l values = record { places = refl; held-by = λ h i. absurd i; worked-by = λ e i. absurd i; made-by = λ v i. absurd i; once = λ g h i. absurd i; last = λ g h i. absurd i }
 
-pub shape-begin : (r : Rule) (m : Model) (p k a : ℕ) → Begins m p → Shape m → Shape (next r m (Begin p k a))
+pub well-formed-begin : (r : Rule) (m : Model) (p k a : ℕ) → Begins m p → WellFormed m → WellFormed (next r m (Begin p k a))
 unfolding next
-shape-begin r m p k a b s = record {
+well-formed-begin r m p k a b s = record {
   places = length-set (m .jobs) p _ ∙ s .places;
   held-by = λ h i. (up (h .job) (s .held-by h i .0), s .held-by h i .1);
   worked-by = over-push _ (m .executions) _ (λ e i. (up (e .job) (s .worked-by e i .0), s .worked-by e i .1)) (begun-runs (m .jobs) p _ inside, refl);
@@ -101,11 +73,11 @@ shape-begin r m p k a b s = record {
 
 -- ---- a lock
 -- what holds of each kept pair
-pub over-paired : (P : Execution → Type 0) (r : Rule) (m : Model) (p o : ℕ) (mode : Mode)
+pub over-kept-pairs : (P : Execution → Type 0) (r : Rule) (m : Model) (p o : ℕ) (mode : Mode)
     → ((e : Execution) → In e (m .executions) → e .job ≡ p → (x : Offer) → In x (offers m o) → is-kept (m .robustness) (pairing r m p o mode e x) ≡ true → P (pairing r m p o mode e x))
     → (e : Execution) → In e (kept-pairs r m p o mode) → P e
 unfolding kept-pairs
-over-paired P r m p o mode f =
+over-kept-pairs P r m p o mode f =
     over-each P _ (executions-of p m) (λ e i.
     let own-e = in-keep (names p) (m .executions) e i in
     over-keep P (is-kept (m .robustness)) (map (pairing r m p o mode e) (offers m o)) (λ y j.
@@ -117,14 +89,14 @@ unfolding offers
 over-offers P m o f g x (inl e) = subst P e f
 over-offers P m o f g x (inr i) = over-map P (offer (m .holdings) o) _ (over-keep _ _ (m .versions) (λ v j t. g v j (eqb-true _ _ t))) x i
 
-pub shape-lock : (r : Rule) (m : Model) (p o : ℕ) (mode : Mode) → Locks m p o mode → Shape m → Shape (next r m (Lock p o mode))
+pub well-formed-lock : (r : Rule) (m : Model) (p o : ℕ) (mode : Mode) → Locks m p o mode → WellFormed m → WellFormed (next r m (Lock p o mode))
 unfolding next kept-pairs
-shape-lock r m p o mode b s = record {
+well-formed-lock r m p o mode b s = record {
   places = s .places;
   held-by = over-push _ (m .holdings) _ (s .held-by) (b .runs, b .object);
   worked-by = over-append _ (keep (λ e. not (names p e)) (m .executions)) (kept-pairs r m p o mode)
       (over-keep _ _ (m .executions) (λ e i t. s .worked-by e i))
-      (over-paired _ r m p o mode (λ e i j x l t. new e i x));
+      (over-kept-pairs _ r m p o mode (λ e i j x l t. new e i x));
   made-by = λ v i. let w = s .made-by v i in (w .0, append-left (m .holdings) _ (w .0) (w .1), w .2, w .3, w .4);
   once = λ g h i. elim (push-cases (m .holdings) _ g h i) [ inl j ↦ s .once g h j | inr j ↦ λ e f. b .new g (j .0) (e ∙ sym (ap (λ x. x .job) (j .1))) (f ∙ sym (ap (λ x. x .object) (j .1))) ];
   last = λ g h i. elim (push-cases (m .holdings) _ g h i) [ inl j ↦ s .last g h j | inr j ↦ λ e f. b .shut g (j .0) (e ∙ sym (ap (λ x. x .object) (j .1))) f ];
@@ -134,27 +106,9 @@ shape-lock r m p o mode b s = record {
     new e i y = let w = s .worked-by e i in (w .0, length-set (e .met) _ _ ∙ w .1)
 
 -- ---- an image
-opened-turn : (b : Bool) (s : HoldingState) → opened (turn-state b s) ≡ true → opened s ≡ true
-opened-turn true Reading e = e
-opened-turn true Open e = refl
-opened-turn true Turned e = e
-opened-turn false s e = e
-
-pub turned-turn : (b : Bool) (s : HoldingState) → turned s ≡ true → turned (turn-state b s) ≡ true
-turned-turn true Reading e = e
-turned-turn true Open e = refl
-turned-turn true Turned e = e
-turned-turn false s e = e
-
-pub open-turns : (b : Bool) (s : HoldingState) → b ≡ true → opened s ≡ true → turned (turn-state b s) ≡ true
-open-turns true Reading e o = absurd (false≢true o)
-open-turns true Open e o = refl
-open-turns true Turned e o = absurd (false≢true o)
-open-turns false s e o = absurd (false≢true e)
-
-pub shape-image : (r : Rule) (m : Model) (p o : ℕ) → Images m p o → Shape m → Shape (next r m (Image p o))
+pub well-formed-image : (r : Rule) (m : Model) (p o : ℕ) → Images m p o → WellFormed m → WellFormed (next r m (Image p o))
 unfolding next
-shape-image r m p o b s = record {
+well-formed-image r m p o b s = record {
   places = s .places;
   held-by = over-map _ (turn p o) (m .holdings) (s .held-by);
   worked-by = s .worked-by;
@@ -174,9 +128,9 @@ shape-image r m p o b s = record {
 }
 
 -- ---- an end
-pub shape-settle : (w : Ending) (k : ℕ) (values : List ℕ) (m : Model) → length values ≡ length (m .values) → Shape m → Shape (settle w k values m)
+pub well-formed-settle : (w : Ending) (k : ℕ) (values : List ℕ) (m : Model) → length values ≡ length (m .values) → WellFormed m → WellFormed (settle w k values m)
 unfolding settle
-shape-settle w k values m long s = record {
+well-formed-settle w k values m long s = record {
   places = length-set (m .jobs) k None ∙ s .places;
   held-by = over-keep _ _ (m .holdings) (λ h i t. (runs-ended (m .jobs) k _ (eqb-false _ _ (not-true _ t)) (s .held-by h i .0), omega (arith, s .held-by h i .1, long)));
   worked-by = over-map _ (settled-execution k) _ (over-keep _ _ (m .executions) (λ e i t. (runs-ended (m .jobs) k _ (eqb-false _ _ (not-true _ (and-parts _ _ t .0))) (s .worked-by e i .0), s .worked-by e i .1)));
@@ -186,14 +140,3 @@ shape-settle w k values m long s = record {
   once = λ g h i. s .once g h (in-keep-behind _ (m .holdings) g h i .0);
   last = λ g h i. s .last g h (in-keep-behind _ (m .holdings) g h i .0);
 }
-
--- a commit leaves as many values as there were
-pub length-written : (p : ℕ) (vs : List Version) (hs : List Holding) (xs : List ℕ) → length (written p vs hs xs) ≡ length xs
-unfolding written
-length-written p vs [] xs = refl
-length-written p vs (h ∷ hs) xs = go (eqb (h .job) p && turned (h .state)) (λ ys. length-written p vs hs ys)
-  where
-    go : (b : Bool) → ((ys : List ℕ) → length (written p vs hs ys) ≡ length ys)
-        → length {A = ℕ} (elim b [ true ↦ written p vs hs (set xs (h .object) (made-value p (h .object) vs (getD xs (h .object) 0))) | false ↦ written p vs hs xs ]) ≡ length xs
-    go true rec = rec _ ∙ length-set xs _ _
-    go false rec = rec xs

@@ -4,20 +4,18 @@ use mathlib.Core.Path.{_≡_, refl, sym, ap, _∙_, subst}
 use mathlib.Core.Bool.{true}
 use mathlib.Core.Logic.{_⊎_, inl, inr}
 use mathlib.Core.List.{List, [], _∷_, _++_}
-use Prim.Native.Nat.{ℕ, zero, suc, _<_}
+use Prim.Native.Nat.{ℕ, _<_}
 use native.Mathlib.Omega.{arith}
-use lib.ListN.{length, getD, set, replicate}
+use lib.ListN.{length, getD, set}
 use lib.Seq.{getD-set-same, getD-set-other}
-use Rattle.std.specs.declared.option.Option.{Option}
 use Rattle.std.specs.declared.option.Option.the-variants.{Some, None}
-use Rattle.std.proofs.shelf.Tests.{false≢true, cases-eq, eqb-true, eq-eqb, ne-eqb}
+use Rattle.std.proofs.shelf.Tests.{cases-eq, eqb-true, eq-eqb, ne-eqb}
 use Rattle.protocol.specs.declared.holdings.Holding.{Holding}
 use Rattle.protocol.specs.declared.assumptions.Execution.{Execution}
 use Rattle.protocol.specs.declared.assumptions.Version.{Version}
 use Rattle.protocol.specs.declared.jobs.Job.{Job}
 use Rattle.terms.specs.declared.calls.Call.{Call}
 use Rattle.terms.specs.declared.calls.Call.the-variants.{Begin}
-use Rattle.protocol.proofs.Runs.{Runs}
 use Rattle.protocol.specs.Holdings.{turned, position}
 use Rattle.protocol.specs.Lists.{keep, In, is-some}
 use Rattle.protocol.specs.Model.{Model, new, job-at, kind-of, argument-of}
@@ -25,12 +23,14 @@ use Rattle.protocol.specs.Past.{place-of, is-at}
 use Rattle.protocol.specs.PlainRun.{play-one, play, fresh, Plain, plain-one}
 use Rattle.protocol.specs.Step.{next}
 use Rattle.terms.specs.Rule.{Rule}
+use Rattle.protocol.proofs.Running.{Runs, nobody-runs}
 use Rattle.protocol.proofs.Lists.{over-push}
-use Rattle.protocol.proofs.Plays.{keep-push-yes, keep-push-no, keep-none, play-push}
-use Rattle.protocol.proofs.Assumed.{Com, Abo, Within}
+use Rattle.protocol.proofs.Filters.{keep-push-yes, keep-push-no, keep-none}
+use Rattle.protocol.proofs.Playing.{play-push}
+use Rattle.protocol.proofs.Chains.{CommitIn, AbortIn, Within}
 use Rattle.protocol.proofs.Accepted.{Begins}
 use Rattle.protocol.proofs.Before.{Before}
-use Rattle.protocol.proofs.Shape.{Shape}
+use Rattle.protocol.proofs.WellFormed.{WellFormed}
 
 -- the value that e met at object o
 abbrev pub met-at : List Holding → Execution → ℕ → ℕ
@@ -42,19 +42,19 @@ pub record Agrees (hs : List Holding) (n : ℕ) (e : Execution) (ys : List ℕ) 
   pub meets : (h : Holding) → In h hs → h .job ≡ e .job → getD ys (h .object) 0 ≡ met-at hs e (h .object)
 
 -- e met the stored value of o, and takes each maker before it to abort
-pub record FromStore (hs : List Holding) (values : List ℕ) (e : Execution) (o : ℕ) : Type 0 where
+pub record MetStore (hs : List Holding) (values : List ℕ) (e : Execution) (o : ℕ) : Type 0 where
   pub value : met-at hs e o ≡ getD values o 0
-  pub before : (q : ℕ) → Before hs o q (e .job) → Abo (e .assumption) q
+  pub before : (q : ℕ) → Before hs o q (e .job) → AbortIn (e .assumption) q
 
 -- e met a version, assumes what it assumes, and takes each maker in between to abort
-pub record FromVersion (hs : List Holding) (vs : List Version) (e : Execution) (o : ℕ) : Type 0 where
+pub record MetVersion (hs : List Holding) (vs : List Version) (e : Execution) (o : ℕ) : Type 0 where
   pub version : Version
   pub there : In version vs
   pub object : version .object ≡ o
   pub within : Within (version .assumption) (e .assumption)
   pub value : met-at hs e o ≡ version .value
   pub maker : Before hs o (version .maker) (e .job)
-  pub between : (q : ℕ) → Before hs o (version .maker) q → Before hs o q (e .job) → Abo (e .assumption) q
+  pub between : (q : ℕ) → Before hs o (version .maker) q → Before hs o q (e .job) → AbortIn (e .assumption) q
 
 -- e's job turned o: a version that e goes with has the value that the plain run of the calls cs makes
 pub record Made (r : Rule) (cs : List Call) (hs : List Holding) (vs : List Version) (n : ℕ) (e : Execution) (o : ℕ) : Type 0 where
@@ -62,34 +62,34 @@ pub record Made (r : Rule) (cs : List Call) (hs : List Holding) (vs : List Versi
   pub there : In version vs
   pub object : version .object ≡ o
   pub maker : version .maker ≡ e .job
-  pub onC : (k : ℕ) → Com (version .assumption) k → Com (e .assumption) k ⊎ (k ≡ e .job)
-  pub onA : (k : ℕ) → Abo (version .assumption) k → Abo (e .assumption) k
+  pub onC : (k : ℕ) → CommitIn (version .assumption) k → CommitIn (e .assumption) k ⊎ (k ≡ e .job)
+  pub onA : (k : ℕ) → AbortIn (version .assumption) k → AbortIn (e .assumption) k
   pub value : (ys : List ℕ) → Agrees hs n e ys → getD (play r (fresh ys) cs .values) o 0 ≡ version .value
 
 -- job p has turned o
-abbrev pub Turns : List Holding → ℕ → ℕ → Type 0
-Turns hs p o = (h : Holding) × In h hs × (h .job ≡ p) × (h .object ≡ o) × (turned (h .state) ≡ true)
+abbrev pub HasTurned : List Holding → ℕ → ℕ → Type 0
+HasTurned hs p o = (h : Holding) × In h hs × (h .job ≡ p) × (h .object ≡ o) × (turned (h .state) ≡ true)
 
 -- the accepted calls of the job at place p
-abbrev pub ops : Plain → ℕ → List Call
-ops s p = keep (is-at p) (s .pending)
+abbrev pub calls-of : Plain → ℕ → List Call
+calls-of s p = keep (is-at p) (s .pending)
 
-pub record Follows (r : Rule) (m : Model) (s : Plain) : Type 0 where
+pub record Faithful (r : Rule) (m : Model) (s : Plain) : Type 0 where
   -- plain: the stored values are those of the plain run
   pub values : m .values ≡ s .values
   -- pending calls are of jobs that run
   pub runs : (c : Call) → In c (s .pending) → Runs m (place-of c)
   -- a job's calls begin with its kind and argument
-  pub kind : (p : ℕ) → Runs m p → (ys : List ℕ) → (play r (fresh ys) (ops s p) .kind ≡ kind-of (job-at m p)) × (play r (fresh ys) (ops s p) .argument ≡ argument-of (job-at m p))
+  pub kind : (p : ℕ) → Runs m p → (ys : List ℕ) → (play r (fresh ys) (calls-of s p) .kind ≡ kind-of (job-at m p)) × (play r (fresh ys) (calls-of s p) .argument ≡ argument-of (job-at m p))
   -- they leave alone what the job has not turned
-  pub others : (p o : ℕ) → (Turns (m .holdings) p o → ⊥) → (ys : List ℕ) → getD (play r (fresh ys) (ops s p) .values) o 0 ≡ getD ys o 0
+  pub others : (p o : ℕ) → (HasTurned (m .holdings) p o → ⊥) → (ys : List ℕ) → getD (play r (fresh ys) (calls-of s p) .values) o 0 ≡ getD ys o 0
   -- work: on the values that e met they give e's working value
-  pub work : (e : Execution) → In e (m .executions) → (ys : List ℕ) → Agrees (m .holdings) (length (m .values)) e ys → play r (fresh ys) (ops s (e .job)) .work ≡ e .work
+  pub work : (e : Execution) → In e (m .executions) → (ys : List ℕ) → Agrees (m .holdings) (length (m .values)) e ys → play r (fresh ys) (calls-of s (e .job)) .work ≡ e .work
   -- made: and, at each object that the job has turned, the value of a version that e goes with
-  pub made : (e : Execution) → In e (m .executions) → (o : ℕ) → Turns (m .holdings) (e .job) o → Made r (ops s (e .job)) (m .holdings) (m .versions) (length (m .values)) e o
+  pub made : (e : Execution) → In e (m .executions) → (o : ℕ) → HasTurned (m .holdings) (e .job) o → Made r (calls-of s (e .job)) (m .holdings) (m .versions) (length (m .values)) e o
   -- met: at each object that the job holds, e met the stored value or a version, and takes each maker in between to abort
   pub met : (e : Execution) → In e (m .executions) → (h : Holding) → In h (m .holdings) → h .job ≡ e .job
-      → FromStore (m .holdings) (m .values) e (h .object) ⊎ FromVersion (m .holdings) (m .versions) e (h .object)
+      → MetStore (m .holdings) (m .values) e (h .object) ⊎ MetVersion (m .holdings) (m .versions) e (h .object)
 
 -- ---- one more call among the pending ones
 module _ (r : Rule) (cs : List Call) (c : Call) (q : ℕ) where
@@ -100,28 +100,20 @@ module _ (r : Rule) (cs : List Call) (c : Call) (q : ℕ) where
   push-other n = keep-push-no (is-at q) cs c (ne-eqb _ _ n)
 
 -- ---- a new book
-pub follows-new : (r : Rule) (x l : ℕ) (values : List ℕ) → Follows r (new x l values) (record { values = values; pending = [] })
+pub faithful-new : (r : Rule) (x l : ℕ) (values : List ℕ) → Faithful r (new x l values) (record { values = values; pending = [] })
 unfolding new play
-follows-new r x l values = record {
+faithful-new r x l values = record {
   values = refl;
   runs = λ c i. absurd i;
-  kind = λ p h ys. absurd (idle p h);
+  kind = λ p h ys. absurd (nobody-runs 16 p h);
   others = λ p o n ys. refl;
   work = λ e i. absurd i;
   made = λ e i. absurd i;
   met = λ e i. absurd i;
 }
-  where
-    idle : (p : ℕ) → Runs (new x l values) p → ⊥
-    idle p h = false≢true (sym (ap is-some (none 16 p)) ∙ h)
-      where
-        none : (n p : ℕ) → _≡_ {A = Option Job} (getD (replicate n None) p None) None
-        none zero p = refl
-        none (suc n) zero = refl
-        none (suc n) (suc p) = none n p
 
 -- ---- a begin
-module _ (r : Rule) (m : Model) (s : Plain) (p k a : ℕ) (b : Begins m p) (sh : Shape m) (f : Follows r m s) where
+module _ (r : Rule) (m : Model) (s : Plain) (p k a : ℕ) (b : Begins m p) (sh : WellFormed m) (f : Faithful r m s) where
   begin : Call
   begin = Begin p k a
 
@@ -129,8 +121,8 @@ module _ (r : Rule) (m : Model) (s : Plain) (p k a : ℕ) (b : Begins m p) (sh :
   job = record { kind = k; argument = a }
 
   -- p has no pending call, no holding, no execution
-  empty-ops : ops s p ≡ []
-  empty-ops = keep-none (is-at p) (s .pending) (λ c i t. b .idle (subst (Runs m) (eqb-true _ _ t) (f .runs c i)))
+  no-calls : calls-of s p ≡ []
+  no-calls = keep-none (is-at p) (s .pending) (λ c i t. b .idle (subst (Runs m) (eqb-true _ _ t) (f .runs c i)))
 
   inside : p < length (m .jobs)
   inside = omega (arith, sh .places, b .small)
@@ -143,11 +135,11 @@ module _ (r : Rule) (m : Model) (s : Plain) (p k a : ℕ) (b : Begins m p) (sh :
 
   own-play : (q : ℕ) → p ≡ q → (ys : List ℕ) → play r (fresh ys) (keep (is-at q) (s .pending ++ begin ∷ [])) ≡ play-one r (fresh ys) begin
   unfolding begin play
-  own-play q e ys = push-own r (s .pending) begin q e ys ∙ ap (λ cs. play-one r (play r (fresh ys) cs) begin) (ap (λ x. ops s x) (sym e) ∙ empty-ops)
+  own-play q e ys = push-own r (s .pending) begin q e ys ∙ ap (λ cs. play-one r (play r (fresh ys) cs) begin) (ap (λ x. calls-of s x) (sym e) ∙ no-calls)
 
-  pub follows-begin : Follows r (next r m (Begin p k a)) (plain-one r s (Begin p k a))
+  pub faithful-begin : Faithful r (next r m (Begin p k a)) (plain-one r s (Begin p k a))
   unfolding next begin job
-  follows-begin = record {
+  faithful-begin = record {
     values = f .values;
     runs = over-push (λ c. is-some (getD (set (m .jobs) p (Some job)) (place-of c) None) ≡ true) (s .pending) begin
         (λ c i. ap is-some (at-other (place-of c) (other-job _ (f .runs c i))) ∙ f .runs c i) (ap is-some (getD-set-same (m .jobs) p (Some job) None inside));
@@ -164,10 +156,10 @@ module _ (r : Rule) (m : Model) (s : Plain) (p k a : ℕ) (b : Begins m p) (sh :
     work = over-push (λ e. (ys : List ℕ) → Agrees (m .holdings) (length (m .values)) e ys → play r (fresh ys) (keep (is-at (e .job)) (s .pending ++ begin ∷ [])) .work ≡ e .work) (m .executions) _
         (λ e i ys g. ap (λ cs. play r (fresh ys) cs .work) (push-other r (s .pending) begin (e .job) (other-job _ (sh .worked-by e i .0))) ∙ f .work e i ys g)
         (λ ys g. ap (λ t. t .work) (own-play p refl ys));
-    made = over-push (λ e. (o : ℕ) → Turns (m .holdings) (e .job) o → Made r (keep (is-at (e .job)) (s .pending ++ begin ∷ [])) (m .holdings) (m .versions) (length (m .values)) e o) (m .executions) _
+    made = over-push (λ e. (o : ℕ) → HasTurned (m .holdings) (e .job) o → Made r (keep (is-at (e .job)) (s .pending ++ begin ∷ [])) (m .holdings) (m .versions) (length (m .values)) e o) (m .executions) _
         (λ e i o t. subst (λ cs. Made r cs (m .holdings) (m .versions) (length (m .values)) e o) (sym (push-other r (s .pending) begin (e .job) (other-job _ (sh .worked-by e i .0)))) (f .made e i o t))
         (λ o t. absurd (b .idle (subst (Runs m) (t .2) (sh .held-by (t .0) (t .1) .0))));
-    met = over-push (λ e. (h : Holding) → In h (m .holdings) → h .job ≡ e .job → FromStore (m .holdings) (m .values) e (h .object) ⊎ FromVersion (m .holdings) (m .versions) e (h .object)) (m .executions) _
+    met = over-push (λ e. (h : Holding) → In h (m .holdings) → h .job ≡ e .job → MetStore (m .holdings) (m .values) e (h .object) ⊎ MetVersion (m .holdings) (m .versions) e (h .object)) (m .executions) _
         (f .met)
         (λ h i e. absurd (b .idle (subst (Runs m) e (sh .held-by h i .0))));
   }

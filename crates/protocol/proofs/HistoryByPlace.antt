@@ -1,5 +1,5 @@
 -- The history names jobs by the number of their begin, the book by place: both say the same of the running jobs.
--- Words: `History` of specs/History; `rel`, `gone` as in Relies.
+-- Words: `History` of specs/History; `rel`, `gone` as `relied`, `gone` in Covered.
 use mathlib.Core.Path.{_≡_, refl, sym, ap, _∙_, subst, subst₂}
 use mathlib.Core.Bool.{Bool, true, false, not, cond, _&&_}
 use mathlib.Core.Logic.{_⊎_, inl, inr}
@@ -7,7 +7,7 @@ use mathlib.Core.List.{List, [], _∷_, _++_}
 use Prim.Native.Nat.{ℕ, _+_, _≤_, _<_}
 use native.Mathlib.Omega.{arith}
 use lib.Dec.{eqb}
-use lib.ListN.{length, getD, set, length-append}
+use lib.ListN.{length, set, length-append}
 use lib.Seq.{getD-set-other}
 use Rattle.std.specs.declared.option.Option.{Option}
 use Rattle.std.specs.declared.option.Option.the-variants.{Some, None}
@@ -16,54 +16,41 @@ use Rattle.terms.specs.declared.modes.Mode.{Mode}
 use Rattle.protocol.specs.declared.holdings.Holding.{Holding}
 use Rattle.protocol.specs.declared.jobs.Job.{Job}
 use Rattle.terms.specs.declared.calls.Call.the-variants.{Begin, Lock}
-use Rattle.protocol.proofs.Runs.{Runs}
 use Rattle.protocol.specs.History.{Rely, Ended, History, is-aborted, relies-on, has-ended, aborts, gains, ends, history-one}
 use Rattle.protocol.specs.Holdings.{makes, makers, spread}
 use Rattle.protocol.specs.Lists.{keep, each, In, is-some}
 use Rattle.protocol.specs.Model.{Model}
 use Rattle.protocol.specs.Places.{has, single, join, without}
 use Rattle.protocol.specs.declared.jobs.Ending.{Ending}
-use Rattle.protocol.proofs.Sets.{join-cases, less, none-in}
+use Rattle.protocol.proofs.Running.{Runs, RunsIn, ended-runs}
+use Rattle.protocol.proofs.Filters.{keep-more, keep-push-yes, keep-push-no}
+use Rattle.protocol.proofs.Membership.{join-cases, in-without-one, none-in}
 use Rattle.protocol.proofs.Lists.{keep-in, any-in, in-any, append-left, append-right, append-cases, map-in, each-in}
 use Rattle.protocol.proofs.Reach.{spread-why}
-use Rattle.protocol.proofs.Plays.{keep-push-yes, keep-push-no}
 use Rattle.protocol.proofs.Makers.{makers-why}
-use Rattle.protocol.proofs.Shape.{Shape, runs-small, ended-runs}
-use Rattle.protocol.proofs.Relies.{Relies, reset}
+use Rattle.protocol.proofs.WellFormed.{WellFormed, runs-small}
+use Rattle.protocol.proofs.Covered.{Covered, reset}
 
-abbrev pub RunsAt : List (Option Job) → ℕ → Type 0
-RunsAt js p = is-some (getD js p None) ≡ true
-
-pub record Tracks (js : List (Option Job)) (h : History) (rel gone : ℕ → ℕ) : Type 0 where
+pub record ByPlace (js : List (Option Job)) (h : History) (rel gone : ℕ → ℕ) : Type 0 where
   -- whom a running job relies on by place, it relies on in the history
-  pub known : (p k : ℕ) → RunsAt js p → has (rel p) k ≡ true → relies-on (h .relied) (h .ids p) (h .ids k) ≡ true
+  pub known : (p k : ℕ) → RunsIn js p → has (rel p) k ≡ true → relies-on (h .relied) (h .ids p) (h .ids k) ≡ true
   -- a running job has not ended
-  pub alive : (p : ℕ) → RunsAt js p → has-ended (h .ended) (h .ids p) ≡ false
+  pub alive : (p : ℕ) → RunsIn js p → has-ended (h .ended) (h .ids p) ≡ false
   -- two running jobs have two numbers
-  pub apart : (p q : ℕ) → RunsAt js p → RunsAt js q → h .ids p ≡ h .ids q → p ≡ q
+  pub apart : (p q : ℕ) → RunsIn js p → RunsIn js q → h .ids p ≡ h .ids q → p ≡ q
   -- a running job has begun
-  pub older : (p : ℕ) → RunsAt js p → h .ids p < h .begun
+  pub older : (p : ℕ) → RunsIn js p → h .ids p < h .begun
   -- and so has an ended one
   pub past : (x : ℕ) → has-ended (h .ended) x ≡ true → x < h .begun
   -- no more relied-on jobs are counted as aborted than the history has
-  pub count : (p : ℕ) → RunsAt js p → gone p ≤ aborts h (h .ids p)
+  pub count : (p : ℕ) → RunsIn js p → gone p ≤ aborts h (h .ids p)
 
 -- where all on which a job ever relied have ended, it relies on no running job
-pub all-ended : (m : Model) (h : History) (rel gone : ℕ → ℕ) → Tracks (m .jobs) h rel gone → Relies m rel gone → (p : ℕ) → Runs m p
+pub all-ended : (m : Model) (h : History) (rel gone : ℕ → ℕ) → ByPlace (m .jobs) h rel gone → Covered m rel gone → (p : ℕ) → Runs m p
     → ((x : ℕ) → relies-on (h .relied) (h .ids p) x ≡ true → has-ended (h .ended) x ≡ true) → (k : ℕ) → has (rel p) k ≡ true → ⊥
 all-ended m h rel gone t y p run f k i = both-ways _ (t .alive k (y .running p run k i .0)) (f (h .ids k) (t .known p k run i))
 
--- ---- counts
-keep-more : {A : Type 0} (t u : A → Bool) (xs : List A) → ((x : A) → t x ≡ true → u x ≡ true) → length (keep t xs) ≤ length (keep u xs)
-keep-more t u [] f = omega arith
-keep-more {A} t u (x ∷ xs) f = go (t x) (u x) refl refl (keep-more t u xs f)
-  where
-    go : (b c : Bool) → t x ≡ b → u x ≡ c → length (keep t xs) ≤ length (keep u xs) → length {A = A} (cond b (x ∷ keep t xs) (keep t xs)) ≤ length {A = A} (cond c (x ∷ keep u xs) (keep u xs))
-    go true true d e r = omega arith
-    go true false d e r = absurd (both-ways _ e (f x d))
-    go false true d e r = omega arith
-    go false false d e r = r
-
+-- ---- relying in the history
 more-relied : (rs qs : List Rely) (i x : ℕ) → relies-on rs i x ≡ true → relies-on (rs ++ qs) i x ≡ true
 unfolding relies-on
 more-relied rs qs i x e = let a = any-in (λ r. eqb (r .job) i && eqb (r .on) x) rs e in in-any _ (rs ++ qs) (a .0) (append-left rs qs (a .0) (a .1)) (a .2)
@@ -73,10 +60,10 @@ unfolding relies-on
 relied-in rs r i = in-any _ rs r i (and-from _ _ (eq-eqb (r .job) (r .job) refl) (eq-eqb (r .on) (r .on) refl))
 
 -- ---- a begin
-pub tracks-begin : (m : Model) (h : History) (rel gone : ℕ → ℕ) (p : ℕ) (j : Job) (k a : ℕ) → (Runs m p → ⊥) → Relies m rel gone → Tracks (m .jobs) h rel gone
-    → Tracks (set (m .jobs) p (Some j)) (history-one h (Begin p k a)) (reset p rel) (reset p gone)
+pub by-place-begin : (m : Model) (h : History) (rel gone : ℕ → ℕ) (p : ℕ) (j : Job) (k a : ℕ) → (Runs m p → ⊥) → Covered m rel gone → ByPlace (m .jobs) h rel gone
+    → ByPlace (set (m .jobs) p (Some j)) (history-one h (Begin p k a)) (reset p rel) (reset p gone)
 unfolding aborts
-tracks-begin m h rel gone p j k a idle y t = record {
+by-place-begin m h rel gone p j k a idle y t = record {
   known = λ q x run i. elim (cases-eq q p) [
     | inl e ↦ none-in x (subst (λ n. has n x ≡ true) (cond-true _ 0 (rel q) (eq-eqb q p e)) i)
     | inr n ↦
@@ -106,11 +93,11 @@ tracks-begin m h rel gone p j k a idle y t = record {
     there : (q : ℕ) → (q ≡ p → ⊥) → cond (eqb q p) (h .begun) (h .ids q) ≡ h .ids q
     there q n = cond-false _ (h .begun) (h .ids q) (ne-eqb q p n)
 
-    runs-old : (q : ℕ) → (q ≡ p → ⊥) → RunsAt (set (m .jobs) p (Some j)) q → Runs m q
+    runs-old : (q : ℕ) → (q ≡ p → ⊥) → RunsIn (set (m .jobs) p (Some j)) q → Runs m q
     runs-old q n run = sym (ap is-some (getD-set-other (m .jobs) p q (Some j) None n)) ∙ run
 
 -- ---- a lock
-module _ (m : Model) (h : History) (rel gone : ℕ → ℕ) (p o : ℕ) (mode : Mode) (run-p : Runs m p) (sh : Shape m) (same : h .holdings ≡ m .holdings) (y : Relies m rel gone) (t : Tracks (m .jobs) h rel gone) where
+module _ (m : Model) (h : History) (rel gone : ℕ → ℕ) (p o : ℕ) (mode : Mode) (run-p : Runs m p) (sh : WellFormed m) (same : h .holdings ≡ m .holdings) (y : Covered m rel gone) (t : ByPlace (m .jobs) h rel gone) where
   abbrev grown : ℕ → ℕ
   grown q = cond (eqb q p) (without (join (rel p) (spread rel 16 (makers o (m .holdings)))) (single p)) (rel q)
 
@@ -126,7 +113,7 @@ module _ (m : Model) (h : History) (rel gone : ℕ → ℕ) (p o : ℕ) (mode : 
   known-own : (x : ℕ) → has (without (join (rel p) (spread rel 16 (makers o (m .holdings)))) (single p)) x ≡ true → relies-on relied′ i (h .ids x) ≡ true
   unfolding relies-on
   known-own x e =
-      let l = less _ p x e in
+      let l = in-without-one _ p x e in
       elim (join-cases _ _ x (l .0)) [
         | inl d ↦ more-relied (h .relied) _ i (h .ids x) (t .known p x run-p d)
         | inr d ↦ elim (spread-why rel 16 (makers o (m .holdings)) x d) [
@@ -148,9 +135,9 @@ module _ (m : Model) (h : History) (rel gone : ℕ → ℕ) (p o : ℕ) (mode : 
         ]
       ]
 
-  pub tracks-lock : Tracks (m .jobs) (history-one h (Lock p o mode)) grown gone
+  pub by-place-lock : ByPlace (m .jobs) (history-one h (Lock p o mode)) grown gone
   unfolding aborts
-  tracks-lock = record {
+  by-place-lock = record {
     known = λ q x run e. elim (cases-eq q p) [
       | inl d ↦ ap (λ z. relies-on relied′ (h .ids z) (h .ids x)) d ∙ known-own x (subst (λ n. has n x ≡ true) (cond-true _ _ (rel q) (eq-eqb q p d)) e)
       | inr n ↦ more-relied (h .relied) _ (h .ids q) (h .ids x) (t .known q x run (subst (λ z. has z x ≡ true) (cond-false _ _ (rel q) (ne-eqb q p n)) e))
@@ -168,7 +155,7 @@ module _ (m : Model) (h : History) (rel gone : ℕ → ℕ) (p o : ℕ) (mode : 
   }
 
 -- ---- an end
-module _ (m : Model) (h : History) (rel gone : ℕ → ℕ) (w : Ending) (k : ℕ) (run-k : Runs m k) (sh : Shape m) (t : Tracks (m .jobs) h rel gone) where
+module _ (m : Model) (h : History) (rel gone : ℕ → ℕ) (w : Ending) (k : ℕ) (run-k : Runs m k) (sh : WellFormed m) (t : ByPlace (m .jobs) h rel gone) where
   abbrev ended′ : List Ended
   ended′ = h .ended ++ record { job = h .ids k; how = w } ∷ []
 
@@ -184,10 +171,10 @@ module _ (m : Model) (h : History) (rel gone : ℕ → ℕ) (w : Ending) (k : �
   inside : k < length (m .jobs)
   inside = omega (arith, sh .places, runs-small m sh k run-k)
 
-  pub tracks-end : Tracks (set (m .jobs) k None) (ends w k h) (λ q. without (rel q) (single k)) (λ q. gone q + cond (has (rel q) k && is-aborted w) 1 0)
+  pub by-place-end : ByPlace (set (m .jobs) k None) (ends w k h) (λ q. without (rel q) (single k)) (λ q. gone q + cond (has (rel q) k && is-aborted w) 1 0)
   unfolding aborts
-  tracks-end = record {
-    known = λ p x run e. t .known p x (old p run .0) (less _ k x e .0);
+  by-place-end = record {
+    known = λ p x run e. t .known p x (old p run .0) (in-without-one _ k x e .0);
     alive = λ p run. elim (cases-bool (has-ended ended′ (h .ids p))) [
       | inr e ↦ e
       | inl e ↦ let o = old p run in elim (ended-cases (h .ids p) e) [ inl z ↦ absurd (both-ways _ (t .alive p (o .0)) z) | inr z ↦ absurd (o .1 (sym (t .apart k p run-k (o .0) z))) ]
@@ -198,7 +185,7 @@ module _ (m : Model) (h : History) (rel gone : ℕ → ℕ) (w : Ending) (k : �
     count = λ p run. counts p (old p run .0);
   }
     where
-      old : (p : ℕ) → RunsAt (set (m .jobs) k None) p → Runs m p × (p ≡ k → ⊥)
+      old : (p : ℕ) → RunsIn (set (m .jobs) k None) p → Runs m p × (p ≡ k → ⊥)
       old p run = ended-runs (m .jobs) k p inside run
 
       counts : (p : ℕ) → Runs m p → gone p + cond (has (rel p) k && is-aborted w) 1 0 ≤ length (keep (λ e. is-aborted (e .how) && relies-on (h .relied) (h .ids p) (e .job)) ended′)

@@ -3,7 +3,7 @@ use mathlib.Core.Path.{_≡_, refl, sym, ap, _∙_}
 use mathlib.Core.Bool.{Bool, true, false, not, cond, _&&_, _||_}
 use mathlib.Core.Logic.{inl, inr}
 use mathlib.Core.List.{List, [], _∷_, map}
-use Prim.Native.Nat.{ℕ, zero, suc, _+_, _-_, _/_, _%_, _^_, _≤_, _<_}
+use Prim.Native.Nat.{ℕ, zero, suc, _+_, _-_, _/_, _%_, _^_, _<_}
 use native.Mathlib.Nat.{pow-suc, mod-lt, zero-lt-suc}
 use native.Mathlib.Omega.{arith}
 use lib.Count.{onesIn}
@@ -14,8 +14,8 @@ use Rattle.std.proofs.shelf.Tests.{true≢false, false≢true, cases-lt, lt-ltb
 use Rattle.protocol.specs.Lists.{keep}
 use Rattle.protocol.specs.Places.{has, placed, join, without, size}
 use Rattle.protocol.specs.SetLaws.{Set-laws, places}
-use Rattle.protocol.proofs.Counts.{below-pow, apart-disjoint}
-use Rattle.protocol.proofs.PlaceLaws.{Digit, d0, d1, digit-of, has-suc, has-first, has-zero, has-single, has-join, has-without, has-past, disjoint-apart, size-join, size-mono}
+use Rattle.protocol.proofs.SetSizes.{below-pow, apart-disjoint}
+use Rattle.protocol.proofs.SetDigits.{Digit, d0, d1, digit-of, has-suc, has-first, has-zero, has-single, has-join, has-without, has-past, disjoint-apart, size-join, size-mono}
 
 -- ---- the same members, the same set
 same-digit : (x y : ℕ) → Digit x → Digit y → eqb x 1 ≡ eqb y 1 → x ≡ y
