@@ -1,0 +1,3 @@
+pub mod PlaceLaws
+pub mod Sifting
+pub mod Tables
