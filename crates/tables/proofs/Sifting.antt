@@ -1,5 +1,5 @@
 -- A loop that moves to the front, changed by f, what passes a test.
-use mathlib.Core.Path.{_≡_, refl, sym, ap, _∙_}
+use mathlib.Core.Path.{_≡_, sym, ap, ap₂, _∙_}
 use mathlib.Core.Bool.{Bool, true, false, cond}
 use mathlib.Core.List.{List, [], _∷_, _++_, map}
 use Prim.Native.Nat.{ℕ, _+_, _-_, _<_, _≤_}
@@ -7,7 +7,8 @@ use native.Mathlib.Omega.{arith}
 use lib.ListN.{length, getD, set, take, drop, replicate}
 use borrow.Rule.Slice.PartMut.{putMid, postOf}
 use Rattle.std.specs.shelf.Lists.{kept-by}
-use Rattle.std.proofs.shelf.Lists.{append-nil, take-more, take-more-set, take-all, drop-more, drop-set-lt, drop-drop, drop-all, length-drop, length-set, length-take-le}
+use Rattle.std.proofs.shelf.Elements.{kept-by-more}
+use Rattle.std.proofs.shelf.Lists.{append-nil, map-append, take-more-set, take-all, drop-more, drop-set-lt, drop-drop, drop-all, length-drop, length-set, length-take-le}
 use Rattle.tables.specs.Ended.{padded}
 
 -- ys began as xs. What passes in the first i of xs stands, changed, in the first k places of ys, and from i on ys is as it was
@@ -19,16 +20,6 @@ pub record Sifting {T : Type 0} (t : T → Bool) (f : T → T) (xs ys : List T) 
   pub long : length ys ≡ length xs
 
 module _ {T : Type 0} (t : T → Bool) (f : T → T) where
-  sift-append : (xs : List T) (x : T) (b : Bool) → t x ≡ b → map f (kept-by t (xs ++ x ∷ [])) ≡ map f (kept-by t xs) ++ cond b (f x ∷ []) []
-  sift-append [] x true e = ap (λ b. map f (cond b (x ∷ []) [])) e
-  sift-append [] x false e = ap (λ b. map f (cond b (x ∷ []) [])) e
-  sift-append (y ∷ xs) x b e = go (t y) (sift-append xs x b e)
-    where
-      go : (a : Bool) → map f (kept-by t (xs ++ x ∷ [])) ≡ map f (kept-by t xs) ++ cond b (f x ∷ []) []
-          → map f (cond a (y ∷ kept-by t (xs ++ x ∷ [])) (kept-by t (xs ++ x ∷ []))) ≡ map f (cond a (y ∷ kept-by t xs) (kept-by t xs)) ++ cond b (f x ∷ []) []
-      go true h = ap (λ l. f y ∷ l) h
-      go false h = h
-
   module _ (xs ys : List T) (k i : ℕ) (x : T) (s : Sifting t f xs ys k i) (l : i < length ys) (is : x ≡ getD ys i x) where
     here : getD xs i x ≡ x
     here =
@@ -46,11 +37,12 @@ module _ {T : Type 0} (t : T → Bool) (f : T → T) where
         let r = s .rest in
         cc
 
-    next : (b : Bool) → t x ≡ b → map f (kept-by t (take (i + 1) xs)) ≡ take k ys ++ cond b (f x ∷ []) []
-    next b e =
+    next : (b : Bool) → t x ≡ b → map f (kept-by t (take (i + 1) xs)) ≡ take k ys ++ map f (cond b (x ∷ []) [])
+    next b is-b =
         let l′ : i < length xs = omega (arith, s .long) in
-        ap (λ l. map f (kept-by t l)) (take-more xs i x l′ ∙ ap (λ y. take i xs ++ y ∷ []) here)
-        ∙ sift-append (take i xs) x b e ∙ ap (λ l. l ++ cond b (f x ∷ []) []) (sym (s .front))
+        ap (map f) (kept-by-more t xs i x l′ ∙ ap (λ y. kept-by t (take i xs) ++ cond (t y) (y ∷ []) []) here)
+        ∙ map-append f (kept-by t (take i xs)) (cond (t x) (x ∷ []) [])
+        ∙ ap₂ (λ l b. l ++ map f (cond b (x ∷ []) [])) (sym (s .front)) is-b
 
     pub sifting-passes : (y : T) → y ≡ f x → t x ≡ true → Sifting t f xs (set ys k y) (k + 1) (i + 1)
     sifting-passes y changed e = record {
