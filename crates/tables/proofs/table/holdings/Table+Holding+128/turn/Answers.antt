@@ -1,7 +1,7 @@
 use mathlib.Core.Path.{refl}
 use Rattle.protocol.specs.Holdings.{turn}
 use Rattle.tables.proofs.Tables.{changed}
-use Rattle.tables.proofs.table.turning.Table+Holding+128.turn.Needs as need
+use Rattle.tables.proofs.table.holdings.Table+Holding+128.turn.Needs as need
 
 pub ghost-self : need.ghost-self
 ghost-self c =
