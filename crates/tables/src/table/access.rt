@@ -21,6 +21,7 @@ impl<T: Copy, const N: usize> Table<T, N> {
         }
     }
 
+    // Those in use, in order.
     pub fn in_use(&self) -> &[T]
         ensures { λ r. ⌜ now r ≡ items (now (self .entry)) ⌝ }
     {
@@ -28,12 +29,14 @@ impl<T: Copy, const N: usize> Table<T, N> {
         &all[..self.count]
     }
 
+    // How many are in use.
     pub fn len(&self) -> usize
         ensures { λ r. ⌜ r ≡ length (items (now (self .entry))) ⌝ }
     {
-        self.count
+        self.in_use().len()
     }
 
+    // Adds the record where there is room.
     fn put(&mut self, record: T)
         requires { ⌜ now self .count < N ⌝ }
         ensures becomes { λ _. ⌜ items (now (self .exit)) ≡ items (now (self .entry)) ++ «record» ∷ [] ⌝ }
