@@ -27,3 +27,10 @@ pub mod Law
 pub mod SetMembers
 pub mod RingExact
 pub mod Always
+pub mod SettlingExact
+pub mod ListOrder
+pub mod PairingExact
+pub mod MakersOrder
+pub mod HistoryReads
+pub mod HistoryExact
+pub mod HistoryBook

@@ -20,3 +20,7 @@ pub mod Law
 pub mod Cases
 pub mod SetLaws
 pub mod RingTest
+pub mod PairingLaws
+pub mod SettlingLaws
+pub mod VersionOrder
+pub mod HistoryLaws
