@@ -25,6 +25,7 @@ pub mod RelyEnd
 pub mod Tracks
 pub mod Law
 pub mod SetMembers
+pub mod WaitingExact
 pub mod RingExact
 pub mod Always
 pub mod SettlingExact

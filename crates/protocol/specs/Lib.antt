@@ -19,6 +19,7 @@ pub mod History
 pub mod Law
 pub mod Cases
 pub mod SetLaws
+pub mod WaitingLaws
 pub mod RingTest
 pub mod PairingLaws
 pub mod SettlingLaws

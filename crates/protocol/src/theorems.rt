@@ -6,6 +6,7 @@ ghost use Rattle.protocol.specs.RingTest.{Ring-test};
 ghost use Rattle.protocol.specs.SetLaws.{Set-laws};
 ghost use Rattle.protocol.specs.SettlingLaws.{Settling-laws};
 ghost use Rattle.protocol.specs.VersionOrder.{Version-order};
+ghost use Rattle.protocol.specs.WaitingLaws.{Waiting-laws};
 ghost use Rattle.protocol.specs.Cases.{Agree};
 
 // The law of the book.
@@ -18,6 +19,13 @@ pub fn overlapping_jobs_leave_what_they_would_one_by_one() -> u8
 // Sets of places, told by their members.
 pub fn sets_have_the_members_they_should() -> u8
     ensures { λ _. ⌜ Set-laws ⌝ }
+{
+    0
+}
+
+// Who waits for whom.
+pub fn a_job_waits_for_those_who_held_its_objects_before() -> u8
+    ensures { λ _. ⌜ Waiting-laws ⌝ }
 {
     0
 }
