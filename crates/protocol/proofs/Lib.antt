@@ -35,3 +35,4 @@ pub mod MakersOrder
 pub mod HistoryReads
 pub mod HistoryExact
 pub mod HistoryBook
+pub mod RelyingExact

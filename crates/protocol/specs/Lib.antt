@@ -25,3 +25,4 @@ pub mod PairingLaws
 pub mod SettlingLaws
 pub mod VersionOrder
 pub mod HistoryLaws
+pub mod RelyingLaws

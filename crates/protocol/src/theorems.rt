@@ -2,6 +2,7 @@
 ghost use Rattle.protocol.specs.Law.{Stands};
 ghost use Rattle.protocol.specs.HistoryLaws.{History-laws};
 ghost use Rattle.protocol.specs.PairingLaws.{Pairing-laws};
+ghost use Rattle.protocol.specs.RelyingLaws.{Relying-laws};
 ghost use Rattle.protocol.specs.RingTest.{Ring-test};
 ghost use Rattle.protocol.specs.SetLaws.{Set-laws};
 ghost use Rattle.protocol.specs.SettlingLaws.{Settling-laws};
@@ -61,6 +62,13 @@ pub fn versions_stand_in_the_order_of_the_locks_of_their_makers() -> u8
 // What the history says of holdings and running jobs.
 pub fn a_holding_begins_with_a_lock_and_ends_with_its_job() -> u8
     ensures { λ _. ⌜ History-laws ⌝ }
+{
+    0
+}
+
+// What the history says of relying and of ended jobs.
+pub fn a_lock_makes_a_job_rely_on_makers_and_on_whom_they_rely() -> u8
+    ensures { λ _. ⌜ Relying-laws ⌝ }
 {
     0
 }
