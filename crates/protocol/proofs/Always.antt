@@ -1,5 +1,5 @@
 -- What holds of a new book and is kept by each accepted call holds after every list of calls.
-use mathlib.Core.Path.{_≡_, refl}
+use mathlib.Core.Path.{_≡_, refl, ap}
 use mathlib.Core.List.{List, [], _∷_}
 use Prim.Native.Nat.{ℕ}
 use Rattle.std.specs.declared.option.Option.{Option}
@@ -26,12 +26,17 @@ always r P f m h (c ∷ cs) i = go (answer r m c) refl (λ m h. always r P f m h
     go None e rec = rec (next r m c) (history-one h c) (f m h c e i)
     go (Some x) e rec = rec m h i
 
+-- what an accepted call leaves
+pub accepted-step : (r : Rule) (m : Model) (c : Call) → answer r m c ≡ None → step r m c ≡ next r m c
+unfolding step
+accepted-step r m c e = ap (λ a. elim a as (λ _. Model) [ None ↦ next r m c | Some x ↦ m ]) e
+
 -- the invariant of the law, as a fact of the book alone
-abbrev pub Sound : Rule → Model → Type 0
-Sound r m = (s : Plain) × Inv r m s
+abbrev pub Lawful : Rule → Model → Type 0
+Lawful r m = (s : Plain) × Inv r m s
 
-pub sound-next : (r : Rule) (m : Model) (c : Call) → answer r m c ≡ None → Sound r m → Sound r (next r m c)
-sound-next r m c e i = (plain-one r (i .0) c, inv-next r m (i .0) c e (i .1))
+pub lawful-next : (r : Rule) (m : Model) (c : Call) → answer r m c ≡ None → Lawful r m → Lawful r (next r m c)
+lawful-next r m c e i = (plain-one r (i .0) c, inv-next r m (i .0) c e (i .1))
 
-pub sound : (r : Rule) (robustness limit : ℕ) (first : List ℕ) (cs : List Call) → Sound r (run r (new robustness limit first) cs)
-sound r robustness limit first cs = always r (λ m h. Sound r m) (λ m h c e i. sound-next r m c e i) (new robustness limit first) blank cs (record { values = first; pending = [] }, inv-new r robustness limit first)
+pub lawful : (r : Rule) (robustness limit : ℕ) (first : List ℕ) (cs : List Call) → Lawful r (run r (new robustness limit first) cs)
+lawful r robustness limit first cs = always r (λ m h. Lawful r m) (λ m h c e i. lawful-next r m c e i) (new robustness limit first) blank cs (record { values = first; pending = [] }, inv-new r robustness limit first)

@@ -69,7 +69,7 @@ none-runs zero p h = false≢true h
 none-runs (suc n) zero h = false≢true h
 none-runs (suc n) (suc p) h = none-runs n p h
 
-sound-new : (r : Rule) (x l : ℕ) (first : List ℕ) → Sound r (new x l first) (record { values = first; pending = [] }) blank
+pub sound-new : (r : Rule) (x l : ℕ) (first : List ℕ) → Sound r (new x l first) (record { values = first; pending = [] }) blank
 unfolding new has-ended
 sound-new r x l first = record {
   inv = inv-new r x l first;
@@ -147,7 +147,7 @@ sound-next r m s h (Abort p) e i =
       tracks = tracks-end m h (i .rel) (i .gone) Aborted p b (i .inv .shape) (i .tracks);
     }
 
-sound-run : (r : Rule) (m : Model) (s : Plain) (h : History) (cs : List Call) → Sound r m s h → Sound r (run r m cs) (plain r s (past r m cs)) (history h (past r m cs))
+pub sound-run : (r : Rule) (m : Model) (s : Plain) (h : History) (cs : List Call) → Sound r m s h → Sound r (run r m cs) (plain r s (past r m cs)) (history h (past r m cs))
 unfolding run past plain history step
 sound-run r m s h [] i = i
 sound-run r m s h (c ∷ cs) i = go (answer r m c) refl (λ m s h. sound-run r m s h cs)

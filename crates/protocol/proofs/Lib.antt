@@ -25,5 +25,14 @@ pub mod RelyEnd
 pub mod Tracks
 pub mod Law
 pub mod SetMembers
+pub mod WaitingExact
 pub mod RingExact
 pub mod Always
+pub mod SettlingExact
+pub mod ListOrder
+pub mod PairingExact
+pub mod MakersOrder
+pub mod HistoryReads
+pub mod HistoryExact
+pub mod HistoryBook
+pub mod RelyingExact

@@ -16,7 +16,7 @@ use Rattle.protocol.specs.Step.{run}
 use Rattle.protocol.specs.Waiting.{Waits-for, Waits-through, directly, through}
 use Rattle.protocol.specs.Ranks.{Acyclic}
 use Rattle.protocol.proofs.Acyclic.{waited-small}
-use Rattle.protocol.proofs.Always.{sound}
+use Rattle.protocol.proofs.Always.{lawful}
 use Rattle.protocol.proofs.LawA.{small}
 use Rattle.protocol.proofs.Reach.{spread-why, reach-closed, reach-more}
 use Rattle.protocol.proofs.Waits.{waits-why, why-waits, waits-push, waits-more, direct-waits}
@@ -93,7 +93,7 @@ exact hs h small none = (found hs h, finds hs h small none)
 kept : (r : Rule) (robustness limit : ℕ) (first : List ℕ) (cs : List Call) → Of-places (run r (new robustness limit first) cs .holdings) × No-ring (run r (new robustness limit first) cs .holdings)
 kept r robustness limit first cs =
     let m = run r (new robustness limit first) cs in
-    let i = sound r robustness limit first cs in
+    let i = lawful r robustness limit first cs in
     (small m (i .1 .shape), no-ring (m .holdings) (i .1 .acyclic))
 
 pub ring-test : Ring-test

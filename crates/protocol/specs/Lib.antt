@@ -19,4 +19,10 @@ pub mod History
 pub mod Law
 pub mod Cases
 pub mod SetLaws
+pub mod WaitingLaws
 pub mod RingTest
+pub mod PairingLaws
+pub mod SettlingLaws
+pub mod VersionOrder
+pub mod HistoryLaws
+pub mod RelyingLaws
