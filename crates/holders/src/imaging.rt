@@ -1,0 +1,60 @@
+// The open holding that an image call turns.
+ghost use mathlib.Core.Path.{_≡_};
+ghost use mathlib.Core.Bool.{_&&_, cond};
+ghost use Rattle.std.specs.declared.result.Result.the-variants.{Ok, Err};
+ghost use Rattle.protocol.specs.declared.refusals.Refusal.the-variants.{NotOpen};
+ghost use Rattle.protocol.specs.Holdings.{opened, holds};
+ghost use Rattle.protocol.specs.Lists.{any};
+ghost use Rattle.holders.specs.Imaging.{image-of};
+use super::gathering::any_passes;
+use super::tests::HoldingTest;
+use protocol::Holding;
+use protocol::HoldingState;
+use protocol::Refusal;
+use terms::Call;
+
+// What an image call makes of a holding: an open one of its job and object is turned, any other refuses.
+pub fn imaged(holding: Holding, call: Call) -> Result<Holding, Refusal>
+    ensures { λ r. ⌜ r ≡ image-of holding call ⌝ }
+{
+    match (holding.state, call) {
+        (HoldingState::Open, Call::Image { place, object })
+            if u64::from(holding.job) == place && holding.object == object => {
+            Ok(Holding {
+                state: HoldingState::Turned,
+                ..holding
+            })
+        }
+        _ => Err(Refusal::NotOpen),
+    }
+}
+
+// It is the open holding that an image call turns.
+#[derive(Drop)]
+pub struct TurnedBy {
+    pub place: u8,
+    pub object: u64,
+}
+
+pub impl HoldingTest for TurnedBy as TurnedByTest {
+    ghost test = { λ t h. holds (t .place) (t .object) h && opened (h .state) };
+
+    fn passes(&self, holding: &Holding) -> bool {
+        let call = Call::Image {
+            place: u64::from(self.place),
+            object: self.object,
+        };
+        imaged(*holding, call).is_ok()
+    }
+}
+
+// Refused where the job does not have the object open.
+pub fn find_open(holdings: &[Holding], place: u8, object: u64) -> Result<(), Refusal>
+    ensures { λ r. ⌜ r ≡ cond (any (λ h. holds place object h && opened (h .state)) (now (holdings .entry))) (Ok tt) (Err NotOpen) ⌝ }
+{
+    if any_passes(holdings, &TurnedBy { place, object }) {
+        Ok(())
+    } else {
+        Err(Refusal::NotOpen)
+    }
+}

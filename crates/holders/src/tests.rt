@@ -1,0 +1,149 @@
+// Tests of one holding.
+ghost use mathlib.Core.Path.{_≡_};
+ghost use mathlib.Core.Bool.{Bool, not, _&&_};
+ghost use lib.Dec.{eqb};
+ghost use Rattle.protocol.specs.declared.holdings.Holding.{Holding};
+ghost use Rattle.protocol.specs.Holdings.{reading, opened, turned, held-by, holds, makes, clash};
+use protocol::Holding;
+use protocol::HoldingState;
+
+pub trait HoldingTest {
+    ghost test: { Self → Holding → Bool };
+
+    fn passes(&self, holding: &Holding) -> bool
+        ensures { λ r. ⌜ r ≡ test (now (self .entry)) (now (holding .entry)) ⌝ };
+}
+
+fn is_reading(state: HoldingState) -> bool
+    ensures { λ r. ⌜ r ≡ reading state ⌝ }
+{
+    match state {
+        HoldingState::Reading => true,
+        HoldingState::Open | HoldingState::Turned => false,
+    }
+}
+
+fn is_opened(state: HoldingState) -> bool
+    ensures { λ r. ⌜ r ≡ opened state ⌝ }
+{
+    match state {
+        HoldingState::Open => true,
+        HoldingState::Reading | HoldingState::Turned => false,
+    }
+}
+
+fn is_turned(state: HoldingState) -> bool
+    ensures { λ r. ⌜ r ≡ turned state ⌝ }
+{
+    match state {
+        HoldingState::Turned => true,
+        HoldingState::Reading | HoldingState::Open => false,
+    }
+}
+
+// The job of the second, which locked later, waits for that of the first.
+fn clashes(first: &Holding, second: &Holding) -> bool
+    ensures { λ r. ⌜ r ≡ clash (now (first .entry)) (now (second .entry)) ⌝ }
+{
+    first.object == second.object && !(is_reading(first.state) && is_reading(second.state))
+}
+
+// It is a holding of the job at the place.
+#[derive(Drop)]
+pub struct HeldBy {
+    pub place: u8,
+}
+
+pub impl HoldingTest for HeldBy as HeldByTest {
+    ghost test = { λ t h. held-by (t .place) h };
+
+    fn passes(&self, holding: &Holding) -> bool {
+        holding.job == self.place
+    }
+}
+
+// It is the job's holding of the object.
+#[derive(Drop)]
+pub struct HolderOf {
+    pub place: u8,
+    pub object: u64,
+}
+
+pub impl HoldingTest for HolderOf as HolderOfTest {
+    ghost test = { λ t h. holds (t .place) (t .object) h };
+
+    fn passes(&self, holding: &Holding) -> bool {
+        holding.job == self.place && holding.object == self.object
+    }
+}
+
+// It is an open holding of the object.
+#[derive(Drop)]
+pub struct OpenOf {
+    pub object: u64,
+}
+
+pub impl HoldingTest for OpenOf as OpenOfTest {
+    ghost test = { λ t h. eqb (h .object) (t .object) && opened (h .state) };
+
+    fn passes(&self, holding: &Holding) -> bool {
+        holding.object == self.object && is_opened(holding.state)
+    }
+}
+
+// It is an open holding of the job.
+#[derive(Drop)]
+pub struct OpenBy {
+    pub place: u8,
+}
+
+pub impl HoldingTest for OpenBy as OpenByTest {
+    ghost test = { λ t h. held-by (t .place) h && opened (h .state) };
+
+    fn passes(&self, holding: &Holding) -> bool {
+        holding.job == self.place && is_opened(holding.state)
+    }
+}
+
+// Its job is a maker of the object.
+#[derive(Drop)]
+pub struct MakerOf {
+    pub object: u64,
+}
+
+pub impl HoldingTest for MakerOf as MakerOfTest {
+    ghost test = { λ t h. makes (t .object) h };
+
+    fn passes(&self, holding: &Holding) -> bool {
+        holding.object == self.object && is_turned(holding.state)
+    }
+}
+
+// The job of a new holding would wait for its job.
+#[derive(Drop)]
+pub struct InTheWayOf {
+    pub new: Holding,
+}
+
+pub impl HoldingTest for InTheWayOf as InTheWayOfTest {
+    ghost test = { λ t g. not (eqb (g .job) (t .new .job)) && clash g (t .new) };
+
+    fn passes(&self, holding: &Holding) -> bool {
+        holding.job != self.new.job && clashes(holding, &self.new)
+    }
+}
+
+// It is a holding of the job at the place, which waits on its account for the job of an earlier one.
+#[derive(Drop)]
+pub struct BehindBy {
+    pub earlier: Holding,
+    pub place: u8,
+}
+
+pub impl HoldingTest for BehindBy as BehindByTest {
+    ghost test = { λ t h. eqb (h .job) (t .place) && clash (t .earlier) h };
+
+    fn passes(&self, holding: &Holding) -> bool {
+        holding.job == self.place && clashes(&self.earlier, holding)
+    }
+}
