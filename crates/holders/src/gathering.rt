@@ -4,13 +4,13 @@ ghost use lib.ListN.{length};
 ghost use Rattle.protocol.specs.Holdings.{jobs-of};
 ghost use Rattle.protocol.specs.Lists.{any, keep};
 ghost use Rattle.protocol.specs.Places.{placed};
-use super::tests::HoldingTest;
+use super::predicates::Predicate;
 use protocol::Holding;
 use protocol::PlaceSet;
 
 // Whether one passes.
-pub fn any_passes<T: HoldingTest>(holdings: &[Holding], test: &T) -> bool
-    ensures { λ r. ⌜ r ≡ any (T·HoldingTest .test (now (test .entry))) (now (holdings .entry)) ⌝ }
+pub fn any_passes<T: Predicate>(holdings: &[Holding], test: &T) -> bool
+    ensures { λ r. ⌜ r ≡ any (T·Predicate .test (now (test .entry))) (now (holdings .entry)) ⌝ }
 {
     for holding in holdings {
         if test.passes(holding) {
@@ -21,8 +21,8 @@ pub fn any_passes<T: HoldingTest>(holdings: &[Holding], test: &T) -> bool
 }
 
 // How many pass.
-pub fn count_passing<T: HoldingTest>(holdings: &[Holding], test: &T) -> usize
-    ensures { λ r. ⌜ r ≡ length (keep (T·HoldingTest .test (now (test .entry))) (now (holdings .entry))) ⌝ }
+pub fn count_passing<T: Predicate>(holdings: &[Holding], test: &T) -> usize
+    ensures { λ r. ⌜ r ≡ length (keep (T·Predicate .test (now (test .entry))) (now (holdings .entry))) ⌝ }
 {
     let mut count = 0;
     for holding in holdings {
@@ -34,8 +34,8 @@ pub fn count_passing<T: HoldingTest>(holdings: &[Holding], test: &T) -> usize
 }
 
 // The jobs of those that pass.
-pub fn jobs_passing<T: HoldingTest>(holdings: &[Holding], test: &T) -> PlaceSet
-    ensures { λ r. ⌜ r .mask ≡ placed (jobs-of (T·HoldingTest .test (now (test .entry))) (now (holdings .entry))) ⌝ }
+pub fn jobs_passing<T: Predicate>(holdings: &[Holding], test: &T) -> PlaceSet
+    ensures { λ r. ⌜ r .mask ≡ placed (jobs-of (T·Predicate .test (now (test .entry))) (now (holdings .entry))) ⌝ }
 {
     let mut set = PlaceSet::EMPTY;
     for holding in holdings {

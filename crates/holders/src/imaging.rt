@@ -7,7 +7,7 @@ ghost use Rattle.protocol.specs.Holdings.{opened, holds};
 ghost use Rattle.protocol.specs.Lists.{any};
 ghost use Rattle.holders.specs.Imaging.{image-of};
 use super::gathering::any_passes;
-use super::tests::HoldingTest;
+use super::predicates::Predicate;
 use protocol::Holding;
 use protocol::HoldingState;
 use protocol::Refusal;
@@ -31,12 +31,12 @@ pub fn imaged(holding: Holding, call: Call) -> Result<Holding, Refusal>
 
 // It is the open holding that an image call turns.
 #[derive(Drop)]
-pub struct TurnedBy {
-    pub place: u8,
-    pub object: u64,
+struct TurnedBy {
+    place: u8,
+    object: u64,
 }
 
-pub impl HoldingTest for TurnedBy as TurnedByTest {
+impl Predicate for TurnedBy as TurnedByPredicate {
     ghost test = { λ t h. holds (t .place) (t .object) h && opened (h .state) };
 
     fn passes(&self, holding: &Holding) -> bool {

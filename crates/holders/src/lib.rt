@@ -2,8 +2,8 @@
 mod gathering;
 pub mod holders;
 pub mod imaging;
+mod predicates;
 pub mod reaching;
-mod tests;
 pub mod waits;
 
 pub use holders::count_held;

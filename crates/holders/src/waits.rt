@@ -7,10 +7,10 @@ ghost use Rattle.protocol.specs.Places.{placed};
 ghost use Rattle.holders.specs.Sets.{mask-at, blocks};
 use super::gathering::any_passes;
 use super::gathering::jobs_passing;
-use super::tests::BehindBy;
-use super::tests::BehindByTest;
-use super::tests::InTheWayOf;
-use super::tests::InTheWayOfTest;
+use super::predicates::BehindBy;
+use super::predicates::BehindByPredicate;
+use super::predicates::InTheWayOf;
+use super::predicates::InTheWayOfPredicate;
 use protocol::Holding;
 use protocol::PlaceSet;
 

@@ -4,4 +4,4 @@ use Rattle.protocol.specs.Lists.{any}
 use Rattle.holders.proofs.gathering.any_passes.Given as given
 
 abbrev pub Inv-loop-holding : given.InvT-loop-holding
-Inv-loop-holding g l = any (g .T·HoldingTest .test (l .test)) (drop (l .holding-index) (l .holdings)) ≡ any (g .T·HoldingTest .test (l .test)) (l .holdings)
+Inv-loop-holding g l = any (g .T·Predicate .test (l .test)) (drop (l .holding-index) (l .holdings)) ≡ any (g .T·Predicate .test (l .test)) (l .holdings)

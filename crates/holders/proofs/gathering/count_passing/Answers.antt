@@ -12,7 +12,7 @@ use Rattle.holders.proofs.gathering.count_passing.Needs.{then-passes, else-pas
 
 pub loop-holding-again : need.loop-holding-again
 loop-holding-again g c =
-    let t = g .T·HoldingTest .test (c .args .test .now) in
+    let t = g .T·Predicate .test (c .args .test .now) in
     let hs = c .args .holdings .now in
     let i = c .loop-holding .holding-index in
     let l = c .loop-holding-test .taken in
@@ -27,4 +27,4 @@ loop-holding-again g c =
 
 pub returns : need.returns
 returns g c =
-    omega (arith, c .loop-holding .inv .1, at-drop-all (λ hs. length (keep (g .T·HoldingTest .test (c .args .test .now)) hs)) (c .args .holdings .now) (c .loop-holding .holding-index) (c .loop-holding-test .left))
+    omega (arith, c .loop-holding .inv .1, at-drop-all (λ hs. length (keep (g .T·Predicate .test (c .args .test .now)) hs)) (c .args .holdings .now) (c .loop-holding .holding-index) (c .loop-holding-test .left))

@@ -7,4 +7,4 @@ use Rattle.holders.proofs.gathering.count_passing.Given as given
 abbrev pub Inv-loop-holding : given.InvT-loop-holding
 Inv-loop-holding g l =
     (l .count ≤ l .holding-index)
-    × (l .count + length (keep (g .T·HoldingTest .test (l .test)) (drop (l .holding-index) (l .holdings))) ≡ length (keep (g .T·HoldingTest .test (l .test)) (l .holdings)))
+    × (l .count + length (keep (g .T·Predicate .test (l .test)) (drop (l .holding-index) (l .holdings))) ≡ length (keep (g .T·Predicate .test (l .test)) (l .holdings)))

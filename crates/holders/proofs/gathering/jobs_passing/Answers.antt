@@ -11,12 +11,12 @@ use Rattle.holders.proofs.gathering.jobs_passing.Needs.{then-passes, else-pass
 
 pub loop-holding-holds : need.loop-holding-holds
 loop-holding-holds g c =
-    let t = g .T·HoldingTest .test (c .args .test .now) in
+    let t = g .T·Predicate .test (c .args .test .now) in
     gathered-none (jobs-of t) (λ h _. t h) (λ h. single (h .job)) (jobs-none t) (jobs-more t) (c .args .holdings .now)
 
 pub loop-holding-again : need.loop-holding-again
 loop-holding-again g c =
-    let t = g .T·HoldingTest .test (c .args .test .now) in
+    let t = g .T·Predicate .test (c .args .test .now) in
     let hs = c .args .holdings .now in
     let i = c .loop-holding .holding-index in
     let l = c .loop-holding-test .taken in
@@ -32,5 +32,5 @@ loop-holding-again g c =
 
 pub returns : need.returns
 returns g c =
-    let t = g .T·HoldingTest .test (c .args .test .now) in
+    let t = g .T·Predicate .test (c .args .test .now) in
     gathered-all (jobs-of t) (λ h _. t h) (λ h. single (h .job)) (jobs-none t) (jobs-more t) (c .args .holdings .now) (c .loop-holding .set .mask) (c .loop-holding .holding-index) (c .loop-holding .inv) (c .loop-holding-test .left)

@@ -6,4 +6,4 @@ use Rattle.holders.proofs.gathering.jobs_passing.Given as given
 
 abbrev pub Inv-loop-holding : given.InvT-loop-holding
 Inv-loop-holding g l =
-    join (l .set .mask) (placed (jobs-of (g .T·HoldingTest .test (l .test)) (drop (l .holding-index) (l .holdings)))) ≡ placed (jobs-of (g .T·HoldingTest .test (l .test)) (l .holdings))
+    join (l .set .mask) (placed (jobs-of (g .T·Predicate .test (l .test)) (drop (l .holding-index) (l .holdings)))) ≡ placed (jobs-of (g .T·Predicate .test (l .test)) (l .holdings))

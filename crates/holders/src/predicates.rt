@@ -1,51 +1,26 @@
-// Tests of one holding.
+// Tests that one holding passes or does not.
 ghost use mathlib.Core.Path.{_≡_};
 ghost use mathlib.Core.Bool.{Bool, not, _&&_};
 ghost use lib.Dec.{eqb};
 ghost use Rattle.protocol.specs.declared.holdings.Holding.{Holding};
-ghost use Rattle.protocol.specs.Holdings.{reading, opened, turned, held-by, holds, makes, clash};
+ghost use Rattle.protocol.specs.Holdings.{opened, held-by, holds, makes, clash};
 use protocol::Holding;
 use protocol::HoldingState;
 
-pub trait HoldingTest {
+pub trait Predicate {
     ghost test: { Self → Holding → Bool };
 
     fn passes(&self, holding: &Holding) -> bool
         ensures { λ r. ⌜ r ≡ test (now (self .entry)) (now (holding .entry)) ⌝ };
 }
 
-fn is_reading(state: HoldingState) -> bool
-    ensures { λ r. ⌜ r ≡ reading state ⌝ }
-{
-    match state {
-        HoldingState::Reading => true,
-        HoldingState::Open | HoldingState::Turned => false,
-    }
-}
-
-fn is_opened(state: HoldingState) -> bool
-    ensures { λ r. ⌜ r ≡ opened state ⌝ }
-{
-    match state {
-        HoldingState::Open => true,
-        HoldingState::Reading | HoldingState::Turned => false,
-    }
-}
-
-fn is_turned(state: HoldingState) -> bool
-    ensures { λ r. ⌜ r ≡ turned state ⌝ }
-{
-    match state {
-        HoldingState::Turned => true,
-        HoldingState::Reading | HoldingState::Open => false,
-    }
-}
-
 // The job of the second, which locked later, waits for that of the first.
 fn clashes(first: &Holding, second: &Holding) -> bool
     ensures { λ r. ⌜ r ≡ clash (now (first .entry)) (now (second .entry)) ⌝ }
 {
-    first.object == second.object && !(is_reading(first.state) && is_reading(second.state))
+    first.object == second.object
+        && !(matches!(first.state, HoldingState::Reading)
+            && matches!(second.state, HoldingState::Reading))
 }
 
 // It is a holding of the job at the place.
@@ -54,7 +29,7 @@ pub struct HeldBy {
     pub place: u8,
 }
 
-pub impl HoldingTest for HeldBy as HeldByTest {
+pub impl Predicate for HeldBy as HeldByPredicate {
     ghost test = { λ t h. held-by (t .place) h };
 
     fn passes(&self, holding: &Holding) -> bool {
@@ -69,7 +44,7 @@ pub struct HolderOf {
     pub object: u64,
 }
 
-pub impl HoldingTest for HolderOf as HolderOfTest {
+pub impl Predicate for HolderOf as HolderOfPredicate {
     ghost test = { λ t h. holds (t .place) (t .object) h };
 
     fn passes(&self, holding: &Holding) -> bool {
@@ -83,11 +58,11 @@ pub struct OpenOf {
     pub object: u64,
 }
 
-pub impl HoldingTest for OpenOf as OpenOfTest {
+pub impl Predicate for OpenOf as OpenOfPredicate {
     ghost test = { λ t h. eqb (h .object) (t .object) && opened (h .state) };
 
     fn passes(&self, holding: &Holding) -> bool {
-        holding.object == self.object && is_opened(holding.state)
+        holding.object == self.object && matches!(holding.state, HoldingState::Open)
     }
 }
 
@@ -97,11 +72,11 @@ pub struct OpenBy {
     pub place: u8,
 }
 
-pub impl HoldingTest for OpenBy as OpenByTest {
+pub impl Predicate for OpenBy as OpenByPredicate {
     ghost test = { λ t h. held-by (t .place) h && opened (h .state) };
 
     fn passes(&self, holding: &Holding) -> bool {
-        holding.job == self.place && is_opened(holding.state)
+        holding.job == self.place && matches!(holding.state, HoldingState::Open)
     }
 }
 
@@ -111,11 +86,11 @@ pub struct MakerOf {
     pub object: u64,
 }
 
-pub impl HoldingTest for MakerOf as MakerOfTest {
+pub impl Predicate for MakerOf as MakerOfPredicate {
     ghost test = { λ t h. makes (t .object) h };
 
     fn passes(&self, holding: &Holding) -> bool {
-        holding.object == self.object && is_turned(holding.state)
+        holding.object == self.object && matches!(holding.state, HoldingState::Turned)
     }
 }
 
@@ -125,7 +100,7 @@ pub struct InTheWayOf {
     pub new: Holding,
 }
 
-pub impl HoldingTest for InTheWayOf as InTheWayOfTest {
+pub impl Predicate for InTheWayOf as InTheWayOfPredicate {
     ghost test = { λ t g. not (eqb (g .job) (t .new .job)) && clash g (t .new) };
 
     fn passes(&self, holding: &Holding) -> bool {
@@ -140,7 +115,7 @@ pub struct BehindBy {
     pub place: u8,
 }
 
-pub impl HoldingTest for BehindBy as BehindByTest {
+pub impl Predicate for BehindBy as BehindByPredicate {
     ghost test = { λ t h. eqb (h .job) (t .place) && clash (t .earlier) h };
 
     fn passes(&self, holding: &Holding) -> bool {
