@@ -5,7 +5,7 @@ use mathlib.Core.List.{List, [], _∷_}
 use Prim.Native.Nat.{ℕ, zero, suc, _<_, _≤_}
 use native.Mathlib.Omega.{arith}
 use Rattle.protocol.specs.declared.holdings.Holding.{Holding}
-use Rattle.protocol.specs.Holdings.{jobs-of, makers, later-makers, holds, waits, new-waits, reach}
+use Rattle.protocol.specs.Holdings.{jobs-of, makers, later-makers, holds, waits, new-waits, reach, would-ring}
 use Rattle.protocol.specs.Places.{has, single, join, placed}
 use Rattle.protocol.proofs.PlaceLaws.{placed-same, single-below}
 use Rattle.holders.specs.Placed.{Placed}
@@ -52,6 +52,6 @@ later-makers-placed o p (h ∷ hs) at = go (holds p o h) (later-makers-placed o 
     go true e = makers-placed o hs (λ k. at (suc k))
     go false e = e
 
--- the ring test, at a place
-pub ring-placed : (w : ℕ → ℕ) (set p : ℕ) → p < 16 → has (placed (reach w set)) p ≡ has (reach w set) p
-ring-placed w set p l = has-placed (reach w set) p l
+-- the ring test of a job at a place, whatever the places of the others
+pub would-ring-placed : (hs : List Holding) (h : Holding) → h .job < 16 → has (placed (reach (waits hs) (new-waits hs h))) (h .job) ≡ would-ring hs h
+would-ring-placed hs h l = has-placed (reach (waits hs) (new-waits hs h)) (h .job) l

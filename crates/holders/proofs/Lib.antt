@@ -6,3 +6,4 @@ pub mod Standing
 pub mod OneMore
 pub mod Spread
 pub mod Cut
+pub mod Turned

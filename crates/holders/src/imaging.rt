@@ -1,9 +1,11 @@
 // The open holding that an image call turns.
 ghost use mathlib.Core.Path.{_≡_};
 ghost use mathlib.Core.Bool.{_&&_, cond};
+ghost use mathlib.Core.List.{map};
 ghost use Rattle.std.specs.declared.result.Result.the-variants.{Ok, Err};
+ghost use Rattle.terms.specs.declared.calls.Call.the-variants.{Image};
 ghost use Rattle.protocol.specs.declared.refusals.Refusal.the-variants.{NotOpen};
-ghost use Rattle.protocol.specs.Holdings.{opened, holds};
+ghost use Rattle.protocol.specs.Holdings.{opened, holds, turn};
 ghost use Rattle.protocol.specs.Lists.{any};
 ghost use Rattle.holders.specs.Imaging.{image-of};
 use super::gathering::any_passes;
@@ -29,6 +31,16 @@ pub fn imaged(holding: Holding, call: Call) -> Result<Holding, Refusal>
     }
 }
 
+// The image call that names the job at a place.
+fn image_call(place: u8, object: u64) -> Call
+    ensures { λ r. ⌜ r ≡ Image place object ⌝ }
+{
+    Call::Image {
+        place: u64::from(place),
+        object,
+    }
+}
+
 // It is the open holding that an image call turns.
 #[derive(Drop)]
 struct TurnedBy {
@@ -40,11 +52,7 @@ impl Predicate for TurnedBy as TurnedByPredicate {
     ghost test = { λ t h. holds (t .place) (t .object) h && opened (h .state) };
 
     fn passes(&self, holding: &Holding) -> bool {
-        let call = Call::Image {
-            place: u64::from(self.place),
-            object: self.object,
-        };
-        imaged(*holding, call).is_ok()
+        imaged(*holding, image_call(self.place, self.object)).is_ok()
     }
 }
 
@@ -56,5 +64,15 @@ pub fn find_open(holdings: &[Holding], place: u8, object: u64) -> Result<(), Ref
         Ok(())
     } else {
         Err(Refusal::NotOpen)
+    }
+}
+
+// Turns the job's open holding of the object, and leaves every other as it is.
+pub fn turn_open(holdings: &mut [Holding], place: u8, object: u64)
+    ensures { λ _. ⌜ now (holdings .exit) ≡ map (turn place object) (now (holdings .entry)) ⌝ }
+{
+    let call = image_call(place, object);
+    for holding in holdings.iter_mut() {
+        *holding = imaged(*holding, call).unwrap_or(*holding);
     }
 }

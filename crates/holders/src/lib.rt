@@ -16,6 +16,7 @@ pub use holders::nth_held;
 pub use holders::position;
 pub use imaging::find_open;
 pub use imaging::imaged;
+pub use imaging::turn_open;
 pub use reaching::reached;
 pub use reaching::would_ring;
 pub use waits::new_waits;

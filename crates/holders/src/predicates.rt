@@ -18,9 +18,9 @@ pub trait Predicate {
 fn clashes(first: &Holding, second: &Holding) -> bool
     ensures { λ r. ⌜ r ≡ clash (now (first .entry)) (now (second .entry)) ⌝ }
 {
-    first.object == second.object
-        && !(matches!(first.state, HoldingState::Reading)
-            && matches!(second.state, HoldingState::Reading))
+    let both_read = matches!(first.state, HoldingState::Reading)
+        && matches!(second.state, HoldingState::Reading);
+    first.object == second.object && !both_read
 }
 
 // It is a holding of the job at the place.
