@@ -6,4 +6,3 @@ pub mod Standing
 pub mod OneMore
 pub mod Spread
 pub mod Cut
-pub mod Turned

@@ -9,7 +9,7 @@ use protocol::Holding;
 use protocol::PlaceSet;
 
 // Whether one passes.
-pub fn any_passes<T: Predicate>(holdings: &[Holding], test: &T) -> bool
+pub(crate) fn any_passes<T: Predicate>(holdings: &[Holding], test: &T) -> bool
     ensures { λ r. ⌜ r ≡ any (T·Predicate .test (now (test .entry))) (now (holdings .entry)) ⌝ }
 {
     for holding in holdings {
@@ -21,7 +21,7 @@ pub fn any_passes<T: Predicate>(holdings: &[Holding], test: &T) -> bool
 }
 
 // How many pass.
-pub fn count_passing<T: Predicate>(holdings: &[Holding], test: &T) -> usize
+pub(crate) fn count_passing<T: Predicate>(holdings: &[Holding], test: &T) -> usize
     ensures { λ r. ⌜ r ≡ length (keep (T·Predicate .test (now (test .entry))) (now (holdings .entry))) ⌝ }
 {
     let mut count = 0;
@@ -34,7 +34,7 @@ pub fn count_passing<T: Predicate>(holdings: &[Holding], test: &T) -> usize
 }
 
 // The jobs of those that pass.
-pub fn jobs_passing<T: Predicate>(holdings: &[Holding], test: &T) -> PlaceSet
+pub(crate) fn jobs_passing<T: Predicate>(holdings: &[Holding], test: &T) -> PlaceSet
     ensures { λ r. ⌜ r .mask ≡ placed (jobs-of (T·Predicate .test (now (test .entry))) (now (holdings .entry))) ⌝ }
 {
     let mut set = PlaceSet::EMPTY;

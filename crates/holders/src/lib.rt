@@ -17,7 +17,7 @@ pub use holders::position;
 pub use imaging::find_open;
 pub use imaging::imaged;
 pub use imaging::turn_open;
-pub use reaching::reached;
+pub use imaging::turned_or_same;
 pub use reaching::would_ring;
 pub use waits::new_waits;
 pub use waits::waiting;

@@ -3,7 +3,7 @@ ghost use mathlib.Core.Path.{_≡_};
 ghost use Prim.Native.Nat.{ℕ, _<_};
 ghost use lib.ListN.{length};
 ghost use Rattle.protocol.specs.Holdings.{waits, new-waits};
-ghost use Rattle.protocol.specs.Places.{placed};
+ghost use Rattle.protocol.specs.Places.{join, placed};
 ghost use Rattle.holders.specs.Sets.{mask-at, blocks};
 use super::gathering::any_passes;
 use super::gathering::jobs_passing;
@@ -48,6 +48,13 @@ pub fn waits_of(holdings: &[Holding], place: u8) -> PlaceSet
     set
 }
 
+// The set, and what the job of a holding waits for on account of those locked before it.
+fn with_waits(set: PlaceSet, before: &[Holding], holding: &Holding) -> PlaceSet
+    ensures { λ r. ⌜ r .mask ≡ join (set .mask) (placed (new-waits (now (before .entry)) (now (holding .entry)))) ⌝ }
+{
+    set.joined(new_waits(before, holding))
+}
+
 // The jobs for which each job waits, by its place.
 pub fn waiting(holdings: &[Holding]) -> [PlaceSet; 16]
     ensures each { λ r. ⌜ ((p : ℕ) → p < 16 → mask-at r p ≡ placed (waits (now (holdings .entry)) p)) ⌝ }
@@ -57,7 +64,7 @@ pub fn waiting(holdings: &[Holding]) -> [PlaceSet; 16]
     for (i, holding) in holdings.iter().enumerate() {
         let place = holding.job as usize;
         if place < 16 {
-            sets[place] = sets[place].joined(new_waits(&holdings[..i], holding));
+            sets[place] = with_waits(sets[place], &holdings[..i], holding);
         }
     }
     sets

@@ -3,13 +3,10 @@ use mathlib.Core.List.{map, _++_, append-nil}
 use Prim.Native.Nat.{_<_}
 use native.Mathlib.Omega.{arith}
 use lib.ListN.{length, getD, set, take, drop}
-use Rattle.std.specs.Results.{valueOr}
 use Rattle.std.proofs.shelf.Edits.{map-over-more}
 use Rattle.std.proofs.shelf.Lists.{take-all, drop-all, getD-default}
 use Rattle.protocol.specs.Holdings.{turn}
-use Rattle.holders.specs.Imaging.{image-of}
 use Rattle.holders.specs.Placed.{blank}
-use Rattle.holders.proofs.Turned.{imaged-or-same}
 use Rattle.holders.proofs.imaging.turn_open.Needs as need
 
 pub loop-holding-again : need.loop-holding-again
@@ -20,10 +17,8 @@ loop-holding-again c =
     let ys = c .loop-holding .holdings in
     let i = c .loop-holding .holding-index in
     let h = getD ys i blank in
-    let is : c .unwrap-or .result ≡ turn p o h =
-    c .unwrap-or .ensures ∙ ap (λ r. valueOr r h) (c .imaged .ensures ∙ ap (image-of h) (c .image-call-call .ensures)) ∙ imaged-or-same p o h in
     let near : i < length ys = omega (arith, c .loop-holding .kept .holdings) in
-    ap (set ys i) is ∙ map-over-more (turn p o) xs ys i h (c .loop-holding-test .taken) (c .loop-holding .inv) (getD-default ys i blank h near)
+    ap (set ys i) (c .turned-or-same .ensures) ∙ map-over-more (turn p o) xs ys i h (c .loop-holding-test .taken) (c .loop-holding .inv) (getD-default ys i blank h near)
 
 pub returns : need.returns
 returns c =

@@ -22,8 +22,8 @@ loop-i-again c =
     let h = getD hs i blank in
     elim (c .if-place-lt16 .came) [
       | then-place-lt16 w ↦
-          let is : w .joined .result .mask ≡ join (mask-at sets (h .job)) (placed (new-waits (take i hs) h)) = cc in
-          rw (w .sets-is) (waiting-more hs sets i l (c .loop-i .inv) (w .joined .result) (w .if-place-lt16 .taken) is)
+          let is : w .with-waits .result .mask ≡ join (mask-at sets (h .job)) (placed (new-waits (take i hs) h)) = cc in
+          rw (w .sets-is) (waiting-more hs sets i l (c .loop-i .inv) (w .with-waits .result) (w .if-place-lt16 .taken) is)
       | else-place-lt16 w ↦ rw (w .sets-is) (waiting-skip hs sets i l (c .loop-i .inv) (w .if-place-lt16 .left))
     ]
 
