@@ -67,7 +67,7 @@ body-parts s = fed-parts s (fed s) refl
 pub lines-within : (s : List ℕ) → All (Within s) (lines-of s)
 lines-within s = words-within s 10 (record { text = body s; at = 0 }) (record { front = []; back = last-feed s; parts = sym (body-parts s); long = refl })
 
-texts-placed : (n : ℕ) (ws : List (List ℕ)) → map (λ w. w .text) (placed n ws) ≡ ws
+pub texts-placed : (n : ℕ) (ws : List (List ℕ)) → map (λ w. w .text) (placed n ws) ≡ ws
 texts-placed n [] = refl
 texts-placed n (w ∷ ws) = ap (λ l. w ∷ l) (texts-placed (n + (length w + 1)) ws)
 

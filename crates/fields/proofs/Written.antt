@@ -23,7 +23,7 @@ abbrev valueOn : ℕ → List ℕ → ℕ
 valueOn n [] = n
 valueOn n (c ∷ cs) = valueOn (n * 10 + (c - 48)) cs
 
-own : Numerals (λ ds. allDigits ds ≡ true) (valueOn 0)
+pub own : Numerals (λ ds. allDigits ds ≡ true) (valueOn 0)
 own = numerals-by-fold _ (search needs) valueOn (search needs)
 
 read-is : (n : ℕ) (cs : List ℕ) → read-on n cs ≡ cond (allDigits cs) (Some (valueOn n cs)) None
