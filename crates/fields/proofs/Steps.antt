@@ -37,7 +37,7 @@ after-some m [] = λ h. absurd (omega arith)
 after-some m (x ∷ xs) =
     let ih = after-some m xs in
     let P : Bool → Type 0 = λ b. length (cond b [] (x ∷ before m xs)) < length (x ∷ xs) → cond b (Some xs) (after m xs) ≡ Some (drop (length (cond b [] (x ∷ before m xs)) + 1) (x ∷ xs)) in
-    elim (eqb x m) as P [ true ↦ λ h. refl | false ↦ λ h. ih (omega arith) ∙ rw (add-one, add-one) refl ]
+    elim (eqb x m) as P [ true ↦ λ h. refl | false ↦ λ h. ih (omega arith) ∙ rw (add-one (length (before m xs)), add-one) refl ]
 
 -- a text without the mark
 pub after-none : (m : ℕ) (xs : List ℕ) → length xs ≤ length (before m xs) → (before m xs ≡ xs) × (after m xs ≡ None)

@@ -18,12 +18,15 @@ use Rattle.fields.proofs.Within.{Within, ends-within, lines-within}
 abbrev blank : Field
 blank = record { bytes = record { ptr = (0, 0); name = 0; now = [] }; at = 0 }
 
-module _ (s : List ℕ) (lines : List Field) (are : map word-of lines ≡ lines-of s) where
+module _ (s : List ℕ) (lines items : List Field) (same : lines ≡ items) (all : map word-of items ≡ lines-of s) where
+  are : map word-of lines ≡ lines-of s
+  are = ap (map word-of) same ∙ all
+
   pub line-inside : (i : ℕ) → i < length lines → end-of (word-of (getD lines i blank)) ≤ length s
   line-inside i h =
-      let all : All (Within s) (map word-of lines) = subst (All (Within s)) (sym are) (lines-within s) in
+      let within : All (Within s) (map word-of lines) = subst (All (Within s)) (sym are) (lines-within s) in
       let long = length-map lines word-of in
-      let one = all-getD (Within s) (map word-of lines) i (word-of blank) (omega arith) all in
+      let one = all-getD (Within s) (map word-of lines) i (word-of blank) (omega arith) within in
       ends-within s (word-of (getD lines i blank)) (subst (Within s) (getD-map word-of lines i blank (word-of blank) h) one)
 
   pub rows-none : map (words 44) (map word-of lines) ≡ rows-of s

@@ -12,7 +12,7 @@ use Rattle.std.proofs.shelf.Elements.{all-map}
 use Rattle.std.proofs.shelf.Lists.{append-assoc, append-nil, take-at, drop-at, take-more, take-all}
 use Rattle.std.proofs.shelf.Tests.{and-parts, ltb-true, eqb-true}
 use Rattle.fields.specs.Cut.{pieces}
-use Rattle.fields.specs.Laws.{last-feed, Lines-join-to-the-script, Stands, Fields-stand-in-the-script}
+use Rattle.fields.specs.Laws.{texts, last-feed, Lines-join-to-the-script, Fields-join-to-their-lines, Stands, Fields-stand-in-the-script}
 use Rattle.fields.specs.Places.{Word, end-of, placed, words, fed, body, lines-of, rows-of}
 use Rattle.fields.proofs.Joins.{whole, lacks, lacks-pieces}
 
@@ -67,12 +67,19 @@ body-parts s = fed-parts s (fed s) refl
 pub lines-within : (s : List ℕ) → All (Within s) (lines-of s)
 lines-within s = words-within s 10 (record { text = body s; at = 0 }) (record { front = []; back = last-feed s; parts = sym (body-parts s); long = refl })
 
-pub texts-placed : (n : ℕ) (ws : List (List ℕ)) → map (λ w. w .text) (placed n ws) ≡ ws
+pub texts-placed : (n : ℕ) (ws : List (List ℕ)) → texts (placed n ws) ≡ ws
 texts-placed n [] = refl
 texts-placed n (w ∷ ws) = ap (λ l. w ∷ l) (texts-placed (n + (length w + 1)) ws)
 
 pub lines-join : Lines-join-to-the-script
 lines-join s = ap (λ ws. rejoined 10 ws ++ last-feed s) (texts-placed 0 (pieces 10 (body s))) ∙ ap (λ t. t ++ last-feed s) (whole 10 (body s)) ∙ body-parts s
+
+fields-join : (ls : List Word) → map (λ row. rejoined 44 (texts row)) (map (words 44) ls) ≡ texts ls
+fields-join [] = refl
+fields-join (l ∷ ls) = λ i. (ap (rejoined 44) (texts-placed (l .at) (pieces 44 (l .text))) ∙ whole 44 (l .text)) i ∷ fields-join ls i
+
+pub fields-join-to-their-lines : Fields-join-to-their-lines
+fields-join-to-their-lines s = fields-join (lines-of s)
 
 all-placed : (P : List ℕ → Type 0) (n : ℕ) (ws : List (List ℕ)) → All P ws → All (λ (w : Word). P (w .text)) (placed n ws)
 all-placed P n [] h = tt

@@ -15,13 +15,21 @@ Pieces-are-what-the-marks-part =
     (m : ℕ) → ((xs : List ℕ) → (rejoined m (pieces m xs) ≡ xs) × All (Lacks m) (pieces m xs) × (0 < length (pieces m xs)))
     × ((ws : List (List ℕ)) → 0 < length ws → All (Lacks m) ws → pieces m (rejoined m ws) ≡ ws)
 
+-- the bytes of each part
+abbrev pub texts : List Word → List (List ℕ)
+texts ws = map (λ w. w .text) ws
+
 -- the line feed that ends a script, if one does
 abbrev pub last-feed : List ℕ → List ℕ
 last-feed s = cond (fed s) (10 ∷ []) []
 
 -- the lines with a line feed between each two, and then the last line feed, are the script
 abbrev pub Lines-join-to-the-script : Type 0
-Lines-join-to-the-script = (s : List ℕ) → rejoined 10 (map (λ w. w .text) (lines-of s)) ++ last-feed s ≡ s
+Lines-join-to-the-script = (s : List ℕ) → rejoined 10 (texts (lines-of s)) ++ last-feed s ≡ s
+
+-- the fields of each line with a comma between each two are that line
+abbrev pub Fields-join-to-their-lines : Type 0
+Fields-join-to-their-lines = (s : List ℕ) → map (λ row. rejoined 44 (texts row)) (rows-of s) ≡ texts (lines-of s)
 
 -- the bytes of s from the place of w on are those of w, and there is neither a comma nor a line feed among them
 abbrev pub Stands : List ℕ → Word → Type 0

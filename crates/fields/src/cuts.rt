@@ -1,7 +1,7 @@
 // Cuts a text at a mark: a script at its line feeds, a line at its commas.
 ghost use mathlib.Core.Path.{_≡_};
 ghost use mathlib.Core.List.{map};
-ghost use Prim.Native.Nat.{_+_, _^_, _<_, _≤_};
+ghost use Prim.Native.Nat.{_^_, _<_};
 ghost use lib.ListN.{length};
 ghost use Rattle.std.specs.Of.Vec.{vec-items};
 ghost use Rattle.std.specs.Options.{mapped, Cases as BySome};
@@ -26,10 +26,10 @@ fn find(text: &[u8], mark: u8) -> usize
 
 // What stands before the first mark, and what stands after it.
 fn cut<'a>(text: Field<'a>, mark: u8) -> (Field<'a>, Option<Field<'a>>)
-    requires { ⌜ text .at + length (now (text .bytes)) < 2 ^ 64 ⌝ }
+    requires { ⌜ end-of (word-of text) < 2 ^ 64 ⌝ }
     ensures front { λ r. ⌜ word-of (r .0) ≡ first-word mark (word-of (text .entry)) ⌝ }
     ensures back { λ r. ⌜ mapped word-of (r .1) ≡ rest-word mark (word-of (text .entry)) ⌝ }
-    ensures inside { λ r. ⌜ BySome (r .1) (Unit {0}) (λ f. (f .at + length (now (f .bytes)) ≡ text .entry .at + length (now (text .entry .bytes))) × (length (now (f .bytes)) < length (now (text .entry .bytes)))) ⌝ }
+    ensures inside { λ r. ⌜ BySome (r .1) (Unit {0}) (λ f. (end-of (word-of f) ≡ end-of (word-of (text .entry))) × (length (now (f .bytes)) < length (now (text .entry .bytes)))) ⌝ }
 {
     let end = find(text.bytes, mark);
     if end >= text.bytes.len() {
@@ -48,7 +48,7 @@ fn cut<'a>(text: Field<'a>, mark: u8) -> (Field<'a>, Option<Field<'a>>)
 
 // The parts of a text between its marks.
 fn pieces<'a>(heap: Global, text: Field<'a>, mark: u8) -> Result<Vec<Field<'a>>, AllocError>
-    requires { ⌜ text .at + length (now (text .bytes)) < 2 ^ 64 ⌝ }
+    requires { ⌜ end-of (word-of text) < 2 ^ 64 ⌝ }
     ensures { λ r. ⌜ made r (λ v. map word-of (vec-items v) ≡ words mark (word-of (text .entry))) ⌝ }
 {
     let mut all = Vec::new(heap);

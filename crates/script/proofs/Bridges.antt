@@ -17,6 +17,7 @@ use Rattle.script.specs.Letters.{letter-in}
 use Rattle.script.specs.Lines.{text-of, texts, field, first-by, first-line, later-by, later-line, call-asked, setup-asked}
 use Rattle.script.specs.Setups.{setup-by, setup-of}
 use Rattle.script.specs.declared.faults.Fault.{Fault}
+use Rattle.script.specs.declared.lines.Line.{Line}
 
 -- the bytes of the field of number i
 text-at : (fs : List Field) (i : ℕ) → text-of (field fs i) ≡ nth (texts fs) i
@@ -42,16 +43,16 @@ module _ (fs : List Field) where
   later-asks None = refl
   later-asks (Some c) = simp through
 
-  pub call-line : then (later-line fs) call-asked ≡ call-of (texts fs)
-  call-line =
-      later-asks (letter-in (text-of (field fs 0)))
+  pub call-line : (r : Result Line Fault) → r ≡ later-line fs → then r call-asked ≡ call-of (texts fs)
+  call-line r e =
+      ap (λ l. then l call-asked) e ∙ later-asks (letter-in (text-of (field fs 0)))
       ∙ (λ j. call-by (letter-in (text-at fs 0 j)) (sym (length-map fs text-of) j) (λ i. text-at fs i j))
 
   first-asks : (o : Option ℕ) → then (first-by o fs) setup-asked ≡ setup-by o (length fs) (λ i. text-of (field fs i))
   first-asks None = refl
   first-asks (Some c) = simp through
 
-  pub setup-line : then (first-line fs) setup-asked ≡ setup-of (texts fs)
-  setup-line =
-      first-asks (letter-in (text-of (field fs 0)))
+  pub setup-line : (r : Result Line Fault) → r ≡ first-line fs → then r setup-asked ≡ setup-of (texts fs)
+  setup-line r e =
+      ap (λ l. then l setup-asked) e ∙ first-asks (letter-in (text-of (field fs 0)))
       ∙ (λ j. setup-by (letter-in (text-at fs 0 j)) (sym (length-map fs text-of) j) (λ i. text-at fs i j))

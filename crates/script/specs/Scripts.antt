@@ -20,8 +20,8 @@ use Rattle.script.specs.Lines.{texts}
 use Rattle.script.specs.Setups.{setup-in}
 use Rattle.script.specs.declared.faults.Fault.{Fault}
 use Rattle.script.specs.declared.faults.Fault.the-variants.{Length, Letter}
-use Rattle.script.specs.declared.scripts.Unread.{Unread}
-use Rattle.script.specs.declared.scripts.Unread.the-variants.{Refused, Memory}
+use Rattle.script.specs.declared.scripts.ReadError.{ReadError}
+use Rattle.script.specs.declared.scripts.ReadError.the-variants.{Refused, Memory}
 use Rattle.script.specs.declared.setups.Setup.{Setup}
 
 -- a script that is read: its setup, and the readings of its other lines
@@ -38,7 +38,7 @@ abbrev pub script-in : List ℕ → Result Reading Fault
 script-in s = cond (ltb 32768 (length s)) (Err Length) (lines-read (pieces 10 (body s)))
 
 -- a refusal is the script's own; want of memory may come to any script
-abbrev pub Explains : Unread → Result Reading Fault → Type 0
+abbrev pub Explains : ReadError → Result Reading Fault → Type 0
 Explains (Refused e) r = r ≡ Err e
 Explains Memory r = Unit {0}
 

@@ -6,7 +6,7 @@ ghost use Rattle.std.specs.Results.{Cases};
 ghost use Rattle.std.specs.Vec.{made};
 ghost use Rattle.std.specs.declared.result.Result.the-variants.{Ok};
 ghost use Rattle.script.specs.Scripts.{row-asked, script-in, Explains};
-ghost use Rattle.script.specs.declared.scripts.Unread.the-variants.{Memory};
+ghost use Rattle.script.specs.declared.scripts.ReadError.the-variants.{Memory};
 use super::calls::read_call;
 use super::faults::Fault;
 use super::setups::Setup;
@@ -30,16 +30,16 @@ pub struct Script {
 
 // Why a script was not read: its first line or its length is at fault, or memory ran out.
 #[derive(Clone, Copy, PartialEq, Eq, Debug)]
-pub enum Unread {
+pub enum ReadError {
     Refused(Fault),
     Memory,
 }
 
-pub impl From<AllocError> for Unread as UnreadFromAlloc {
+pub impl From<AllocError> for ReadError as ReadErrorFromAlloc {
     ghost converts = { λ _ r. r ≡ Memory };
 
-    fn from(_: AllocError) -> Unread {
-        Unread::Memory
+    fn from(_: AllocError) -> ReadError {
+        ReadError::Memory
     }
 }
 
@@ -55,21 +55,21 @@ fn read_calls(heap: Global, lines: &[Vec<Field>]) -> Result<Vec<Result<Call, Fau
 }
 
 // The setup of a script and the readings of its other lines, in their order.
-pub fn read_script(heap: Global, script: &[u8]) -> Result<Script, Unread>
+pub fn read_script(heap: Global, script: &[u8]) -> Result<Script, ReadError>
     ensures { λ r. ⌜ Cases r (λ s. script-in (now (script .entry)) ≡ Ok (s .setup, vec-items (s .readings))) (λ e. Explains e (script-in (now (script .entry)))) ⌝ }
 {
     if script.len() > LONGEST {
-        return Err(Unread::Refused(Fault::Length));
+        return Err(ReadError::Refused(Fault::Length));
     }
     let lines = rows(heap, script)?;
     let [first, others @ ..] = lines.as_slice() else {
-        return Err(Unread::Refused(Fault::Letter));
+        return Err(ReadError::Refused(Fault::Letter));
     };
     match read_setup(first.as_slice()) {
         Ok(setup) => Ok(Script {
             setup,
             readings: read_calls(heap, others)?,
         }),
-        Err(fault) => Err(Unread::Refused(fault)),
+        Err(fault) => Err(ReadError::Refused(fault)),
     }
 }

@@ -13,42 +13,30 @@ use std::fmt;
 use terms::Call;
 use terms::Mode;
 
-// A call as a line.
-#[derive(Clone, Copy)]
-pub struct CallLine(pub Call);
-
-pub impl fmt::Display for CallLine as CallLineDisplay {
-    ghost shown = { λ l. Some (call-bytes (l .0)) };
-
-    fn fmt<W: fmt::Write>(&self, f: &mut fmt::Formatter<W>) -> fmt::Result {
-        match self.0 {
-            Call::Begin {
-                place,
-                kind,
-                argument,
-            } => write!(f, "B,{place},{kind},{argument}"),
-            Call::Lock {
-                place,
-                object,
-                mode: Mode::Read,
-            } => write!(f, "L,{place},{object},R"),
-            Call::Lock {
-                place,
-                object,
-                mode: Mode::Write,
-            } => write!(f, "L,{place},{object},W"),
-            Call::Image { place, object } => write!(f, "I,{place},{object}"),
-            Call::Commit { place } => write!(f, "C,{place}"),
-            Call::Abort { place } => write!(f, "A,{place}"),
-        }
-    }
-}
-
 // The line that asks for a call.
 pub fn call_line(heap: Global, call: Call) -> Result<String, AllocError>
     ensures { λ r. ⌜ made r (λ s. string-bytes s ≡ call-bytes call) ⌝ }
 {
-    CallLine(call).to_string(heap)
+    match call {
+        Call::Begin {
+            place,
+            kind,
+            argument,
+        } => format!(heap, "B,{place},{kind},{argument}"),
+        Call::Lock {
+            place,
+            object,
+            mode: Mode::Read,
+        } => format!(heap, "L,{place},{object},R"),
+        Call::Lock {
+            place,
+            object,
+            mode: Mode::Write,
+        } => format!(heap, "L,{place},{object},W"),
+        Call::Image { place, object } => format!(heap, "I,{place},{object}"),
+        Call::Commit { place } => format!(heap, "C,{place}"),
+        Call::Abort { place } => format!(heap, "A,{place}"),
+    }
 }
 
 pub impl fmt::Display for RuleName as RuleNameDisplay {
