@@ -11,7 +11,6 @@ use Rattle.std.specs.shelf.Lists.{All}
 use Rattle.std.proofs.shelf.Tests.{eqb-false, ne-eqb}
 use Rattle.std.proofs.shelf.Ways.{tells}
 use Rattle.fields.specs.Cut.{onto, pieces}
-use Rattle.fields.specs.Laws.{Pieces-are-what-the-marks-part}
 use Rattle.fields.proofs.Steps.{pieces-step}
 
 lacks-none : (m : ℕ) → Lacks m []
@@ -74,6 +73,3 @@ module _ (m : ℕ) where
   pub unique : (ws : List (List ℕ)) → 0 < length ws → All (Lacks m) ws → pieces m (rejoined m ws) ≡ ws
   unique [] h = absurd (omega arith)
   unique (w ∷ ws) h = λ l. only w ws (l .0) (l .1)
-
-pub pieces-are-parted : Pieces-are-what-the-marks-part
-pieces-are-parted m = ((λ xs. (whole m xs, lacks m xs, some m xs)), unique m)

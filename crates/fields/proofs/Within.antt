@@ -12,7 +12,7 @@ use Rattle.std.proofs.shelf.Elements.{all-map}
 use Rattle.std.proofs.shelf.Lists.{append-assoc, append-nil, take-at, drop-at, take-more, take-all}
 use Rattle.std.proofs.shelf.Tests.{and-parts, ltb-true, eqb-true}
 use Rattle.fields.specs.Cut.{pieces}
-use Rattle.fields.specs.Laws.{texts, last-feed, Lines-join-to-the-script, Fields-join-to-their-lines, Stands, Fields-stand-in-the-script}
+use Rattle.fields.specs.Laws.{texts, last-mark, Lines-join-to-the-script, Fields-join-to-their-lines, Stands, Fields-stand-in-the-script}
 use Rattle.fields.specs.Places.{Word, end-of, placed, words, fed, body, lines-of, rows-of}
 use Rattle.fields.proofs.Joins.{whole, lacks, lacks-pieces}
 
@@ -61,24 +61,24 @@ fed-parts s true e =
     ap (λ x. take (length s - 1) s ++ (x ∷ [])) (sym feed) ∙ sym (take-more s (length s - 1) 0 (omega arith)) ∙ take-all (length s - 1 + 1) s (omega arith)
 fed-parts s false e = append-nil s
 
-body-parts : (s : List ℕ) → body s ++ last-feed s ≡ s
+body-parts : (s : List ℕ) → body s ++ last-mark 10 s ≡ s
 body-parts s = fed-parts s (fed s) refl
 
 pub lines-within : (s : List ℕ) → All (Within s) (lines-of s)
-lines-within s = words-within s 10 (record { text = body s; at = 0 }) (record { front = []; back = last-feed s; parts = sym (body-parts s); long = refl })
+lines-within s = words-within s 10 (record { text = body s; at = 0 }) (record { front = []; back = last-mark 10 s; parts = sym (body-parts s); long = refl })
 
 pub texts-placed : (n : ℕ) (ws : List (List ℕ)) → texts (placed n ws) ≡ ws
 texts-placed n [] = refl
 texts-placed n (w ∷ ws) = ap (λ l. w ∷ l) (texts-placed (n + (length w + 1)) ws)
 
-pub lines-join : Lines-join-to-the-script
-lines-join s = ap (λ ws. rejoined 10 ws ++ last-feed s) (texts-placed 0 (pieces 10 (body s))) ∙ ap (λ t. t ++ last-feed s) (whole 10 (body s)) ∙ body-parts s
+pub lines-join : Lines-join-to-the-script 10
+lines-join s = ap (λ ws. rejoined 10 ws ++ last-mark 10 s) (texts-placed 0 (pieces 10 (body s))) ∙ ap (λ t. t ++ last-mark 10 s) (whole 10 (body s)) ∙ body-parts s
 
 fields-join : (ls : List Word) → map (λ row. rejoined 44 (texts row)) (map (words 44) ls) ≡ texts ls
 fields-join [] = refl
 fields-join (l ∷ ls) = λ i. (ap (rejoined 44) (texts-placed (l .at) (pieces 44 (l .text))) ∙ whole 44 (l .text)) i ∷ fields-join ls i
 
-pub fields-join-to-their-lines : Fields-join-to-their-lines
+pub fields-join-to-their-lines : Fields-join-to-their-lines 44
 fields-join-to-their-lines s = fields-join (lines-of s)
 
 all-placed : (P : List ℕ → Type 0) (n : ℕ) (ws : List (List ℕ)) → All P ws → All (λ (w : Word). P (w .text)) (placed n ws)
@@ -86,11 +86,11 @@ all-placed P n [] h = tt
 all-placed P n (w ∷ ws) (h, hs) = (h, all-placed P (n + (length w + 1)) ws hs)
 
 -- what three lists of facts say of each item
-stand : (s : List ℕ) (ws : List Word) → All (Within s) ws → All (λ w. Lacks 44 (w .text)) ws → All (λ w. Lacks 10 (w .text)) ws → All (Stands s) ws
+stand : (s : List ℕ) (ws : List Word) → All (Within s) ws → All (λ w. Lacks 44 (w .text)) ws → All (λ w. Lacks 10 (w .text)) ws → All (Stands 44 10 s) ws
 stand s [] a b c = tt
 stand s (w ∷ ws) (a, as′) (b, bs) (c, cs) = ((at-place s w a, b, c), stand s ws as′ bs cs)
 
-fields-stand : (s : List ℕ) (ls : List Word) → All (Within s) ls → All (λ w. Lacks 10 (w .text)) ls → All (All (Stands s)) (map (words 44) ls)
+fields-stand : (s : List ℕ) (ls : List Word) → All (Within s) ls → All (λ w. Lacks 10 (w .text)) ls → All (All (Stands 44 10 s)) (map (words 44) ls)
 fields-stand s [] a b = tt
 fields-stand s (l ∷ ls) (a, as′) (b, bs) = (
   stand s (words 44 l) (words-within s 44 l a) (all-placed (Lacks 44) (l .at) (pieces 44 (l .text)) (lacks 44 (l .text)))
@@ -98,6 +98,6 @@ fields-stand s (l ∷ ls) (a, as′) (b, bs) = (
   fields-stand s ls as′ bs,
 )
 
-pub fields-stand-in-the-script : Fields-stand-in-the-script
+pub fields-stand-in-the-script : Fields-stand-in-the-script 44 10
 fields-stand-in-the-script s =
     fields-stand s (lines-of s) (lines-within s) (all-placed (Lacks 10) 0 (pieces 10 (body s)) (lacks 10 (body s)))

@@ -76,5 +76,5 @@ forth (c ∷ cs) n e =
     (omega arith, sym (decimal-value own (c ∷ cs) (t .1) (omega arith) (λ is. absurd (first is)) (omega arith)) ∙ ap decimal (t .2)))
     (cases-eq c 48)
 
-pub numbers-are-decimals : Numbers-are-decimals
+pub numbers-are-decimals : Numbers-are-decimals (10 ^ 18)
 numbers-are-decimals = (forth, back)

@@ -2,7 +2,7 @@
 use mathlib.Core.Bool.{Bool, cond, _&&_}
 use mathlib.Core.List.{List, [], _∷_}
 use mathlib.Core.Path.{_≡_}
-use Prim.Native.Nat.{ℕ, _+_, _-_, _*_, _^_, _<_}
+use Prim.Native.Nat.{ℕ, _+_, _-_, _*_, _<_}
 use lib.Dec.{leb, eqb}
 use lib.ListN.{length}
 use Rattle.std.specs.Written.{decimal}
@@ -28,8 +28,8 @@ abbrev pub number-in : List ℕ → Option ℕ
 number-in [] = None
 number-in (c ∷ cs) = cond (eqb c 48) (only-zero cs) (cond (leb (length (c ∷ cs)) 18) (read-on 0 (c ∷ cs)) None)
 
--- the bytes write n exactly where they are n in decimal and n has at most 18 digits
-abbrev pub Numbers-are-decimals : Type 0
-Numbers-are-decimals =
-    ((bs : List ℕ) (n : ℕ) → number-in bs ≡ Some n → (n < 10 ^ 18) × (bs ≡ decimal n))
-    × ((n : ℕ) → n < 10 ^ 18 → number-in (decimal n) ≡ Some n)
+-- the bytes write n exactly where they are n in decimal and n is below the limit
+abbrev pub Numbers-are-decimals : ℕ → Type 0
+Numbers-are-decimals limit =
+    ((bs : List ℕ) (n : ℕ) → number-in bs ≡ Some n → (n < limit) × (bs ≡ decimal n))
+    × ((n : ℕ) → n < limit → number-in (decimal n) ≡ Some n)

@@ -1,38 +1,31 @@
-// What cutting keeps, and which bytes are numbers.
-ghost use Rattle.fields.specs.Laws.{Pieces-are-what-the-marks-part, Lines-join-to-the-script, Fields-join-to-their-lines, Fields-stand-in-the-script};
+// What cutting keeps, and which bytes are numbers. Each function answers the numbers of its law.
+ghost use Rattle.fields.specs.Laws.{Lines-join-to-the-script, Fields-join-to-their-lines, Fields-stand-in-the-script};
 ghost use Rattle.fields.specs.Number.{Numbers-are-decimals};
-
-// The pieces joined by the mark are the text, and none of them holds the mark.
-pub fn pieces_are_what_the_marks_part() -> u8
-    ensures { λ _. ⌜ Pieces-are-what-the-marks-part ⌝ }
-{
-    0
-}
 
 // The lines joined by line feeds, and the last line feed put back, are the script.
 pub fn lines_join_to_the_script() -> u8
-    ensures { λ _. ⌜ Lines-join-to-the-script ⌝ }
+    ensures { λ mark. ⌜ Lines-join-to-the-script mark ⌝ }
 {
-    0
+    b'\n'
 }
 
 // The fields of a line joined by commas are the line.
 pub fn fields_join_to_their_lines() -> u8
-    ensures { λ _. ⌜ Fields-join-to-their-lines ⌝ }
+    ensures { λ mark. ⌜ Fields-join-to-their-lines mark ⌝ }
 {
-    0
+    b','
 }
 
 // Each field is the bytes of the script at its place, without comma and line feed.
-pub fn fields_stand_in_the_script() -> u8
-    ensures { λ _. ⌜ Fields-stand-in-the-script ⌝ }
+pub fn fields_stand_in_the_script() -> (u8, u8)
+    ensures { λ marks. ⌜ Fields-stand-in-the-script (marks .0) (marks .1) ⌝ }
 {
-    0
+    (b',', b'\n')
 }
 
-// Bytes write a number exactly where they are its decimal digits.
-pub fn numbers_are_decimals() -> u8
-    ensures { λ _. ⌜ Numbers-are-decimals ⌝ }
+// Bytes write a number exactly where they are its decimal digits and it has at most 18 of them.
+pub fn numbers_are_decimals() -> u64
+    ensures { λ limit. ⌜ Numbers-are-decimals limit ⌝ }
 {
-    0
+    1_000_000_000_000_000_000
 }

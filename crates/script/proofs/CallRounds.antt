@@ -51,7 +51,7 @@ mode-lacks : (m : Mode) → Lacks 44 (mode-letter m ∷ [])
 mode-lacks Read = letter-lacks 82 (λ e. absurd (omega arith))
 mode-lacks Write = letter-lacks 87 (λ e. absurd (omega arith))
 
-lacks : (c : Call) → Short-call c → All (Lacks 44) (parts c)
+lacks : (c : Call) → Short-call (10 ^ 18) c → All (Lacks 44) (parts c)
 lacks (Begin p k a) (hp, hk, ha) = (letter-lacks 66 (λ e. absurd (omega arith)), (decimal-lacks p hp, (decimal-lacks k hk, (decimal-lacks a ha, tt))))
 lacks (Lock p o m) (hp, ho) = (letter-lacks 76 (λ e. absurd (omega arith)), (decimal-lacks p hp, (decimal-lacks o ho, (mode-lacks m, tt))))
 lacks (Image p o) (hp, ho) = (letter-lacks 73 (λ e. absurd (omega arith)), (decimal-lacks p hp, (decimal-lacks o ho, tt)))
@@ -69,19 +69,19 @@ read-mode : (m : Mode) → mode-in (mode-letter m ∷ []) ≡ Ok m
 read-mode Read = refl
 read-mode Write = refl
 
-read-parts : (c : Call) → Short-call c → call-of (parts c) ≡ Ok c
+read-parts : (c : Call) → Short-call (10 ^ 18) c → call-of (parts c) ≡ Ok c
 read-parts (Begin p k a) (hp, hk, ha) = λ i. then (read-value p hp i) (λ place. then (read-value k hk i) (λ kind. then (read-value a ha i) (λ argument. Ok (Begin place kind argument))))
 read-parts (Lock p o m) (hp, ho) = λ i. then (read-value p hp i) (λ place. then (read-value o ho i) (λ object. then (read-mode m i) (λ mode. Ok (Lock place object mode))))
 read-parts (Image p o) (hp, ho) = λ i. then (read-value p hp i) (λ place. then (read-value o ho i) (λ object. Ok (Image place object)))
 read-parts (Commit p) hp = λ i. then (read-value p hp i) (λ place. Ok (Commit place))
 read-parts (Abort p) hp = λ i. then (read-value p hp i) (λ place. Ok (Abort place))
 
-back : (c : Call) → Short-call c → call-in (call-bytes c) ≡ Ok c
+back : (c : Call) → Short-call (10 ^ 18) c → call-in (call-bytes c) ≡ Ok c
 back c h = ap (λ l. call-of (pieces 44 l)) (sym (joined c)) ∙ ap call-of (unique 44 (parts c) (some c) (lacks c h)) ∙ read-parts c h
 
 -- fs is how c is written
 abbrev Is : List (List ℕ) → Call → Type 0
-Is fs c = Short-call c × (fs ≡ parts c)
+Is fs c = Short-call (10 ^ 18) c × (fs ≡ parts c)
 
 mode-ok : (w : List ℕ) (m : Mode) → mode-in w ≡ Ok m → w ≡ mode-letter m ∷ []
 mode-ok w m e =
@@ -158,10 +158,10 @@ module _ (c : Call) where
     call-ok : call-of fs ≡ Ok c → Is fs c
     call-ok = by (letter-in (nth fs 0)) refl
 
-  forth : (line : List ℕ) → call-in line ≡ Ok c → Short-call c × (line ≡ call-bytes c)
+  forth : (line : List ℕ) → call-in line ≡ Ok c → Short-call (10 ^ 18) c × (line ≡ call-bytes c)
   forth line e =
       let r = call-ok (pieces 44 line) e in
       (r .0, sym (whole 44 line) ∙ ap (rejoined 44) (r .1) ∙ joined c)
 
-pub calls-read-back : Written-calls-read-back
+pub calls-read-back : Written-calls-read-back (10 ^ 18)
 calls-read-back = (back, λ line c. forth c line)

@@ -26,7 +26,6 @@ use Rattle.fields.specs.Number.{number-in}
 use Rattle.fields.proofs.Written.{own, numbers-are-decimals}
 use Rattle.script.specs.Calls.{having}
 use Rattle.script.specs.Faults.{then}
-use Rattle.script.specs.Laws.{Short}
 use Rattle.script.specs.Letters.{letter-in, either, value-in, objects-in}
 use Rattle.script.specs.declared.faults.Fault.{Fault}
 use Rattle.script.specs.declared.faults.Fault.the-variants.{Count, Form}
@@ -37,7 +36,7 @@ digits-lack [] h k l e = absurd (omega arith)
 digits-lack (d ∷ ds) h zero l e = absurd (grind (arith, tells))
 digits-lack (d ∷ ds) h (suc k) l e = digits-lack ds (and-parts (asciiDigit d) (allDigits ds) h .1) k (omega arith) e
 
-pub decimal-lacks : (n : ℕ) → Short n → Lacks 44 (decimal n)
+pub decimal-lacks : (n : ℕ) → n < 10 ^ 18 → Lacks 44 (decimal n)
 decimal-lacks n h = digits-lack (decimal n) (digits-decimal own n (omega arith))
 
 pub letter-lacks : (c : ℕ) → (c ≡ 44 → ⊥) → Lacks 44 (c ∷ [])
@@ -45,7 +44,7 @@ letter-lacks c off zero l e = off e
 letter-lacks c off (suc k) l e = absurd (omega arith)
 
 -- a written number is read
-pub read-value : (n : ℕ) → Short n → value-in (decimal n) ≡ Ok n
+pub read-value : (n : ℕ) → n < 10 ^ 18 → value-in (decimal n) ≡ Ok n
 read-value n h = ap (λ o. okOr o Form) (numbers-are-decimals .1 n h)
 
 some-from-ok : (o : Option ℕ) (n : ℕ) → okOr o Form ≡ Ok n → o ≡ Some n
@@ -53,7 +52,7 @@ some-from-ok None n e = absurd (grind arith)
 some-from-ok (Some x) n e = grind arith
 
 -- a field that is read as a number is that number written
-pub value-ok : (w : List ℕ) (n : ℕ) → value-in w ≡ Ok n → Short n × (w ≡ decimal n)
+pub value-ok : (w : List ℕ) (n : ℕ) → value-in w ≡ Ok n → (n < 10 ^ 18) × (w ≡ decimal n)
 value-ok w n e = numbers-are-decimals .0 w n (some-from-ok (number-in w) n e)
 
 -- what came through is a value of both parts

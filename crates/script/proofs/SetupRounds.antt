@@ -44,7 +44,7 @@ store-lacks : (n : StoreName) → Lacks 44 (store-bytes n)
 store-lacks Table = letter-lacks 84 (λ e. absurd (omega arith))
 store-lacks Image = letter-lacks 77 (λ e. absurd (omega arith))
 
-lacks : (s : Setup) → Short-setup s → All (Lacks 44) (parts s)
+lacks : (s : Setup) → Short-setup (10 ^ 18) 64 s → All (Lacks 44) (parts s)
 lacks s (hr, hl, ho) =
     (letter-lacks 83 (λ e. absurd (omega arith)), (rule-lacks (s .rule), (store-lacks (s .store), (decimal-lacks (s .robustness) hr, (decimal-lacks (s .limit) hl, (decimal-lacks (s .objects) (omega arith), tt))))))
 
@@ -60,7 +60,7 @@ read-objects : (n : ℕ) → n ≤ 64 → objects-in (decimal n) ≡ Ok n
 read-objects n h =
     ap (λ r. then r (λ n. cond (leb n 64) (Ok n) (Err Form))) (read-value n (omega arith)) ∙ ap (λ b. cond b (Ok n) (Err Form)) (le-leb n 64 h)
 
-read-parts : (s : Setup) → Short-setup s → setup-of (parts s) ≡ Ok s
+read-parts : (s : Setup) → Short-setup (10 ^ 18) 64 s → setup-of (parts s) ≡ Ok s
 read-parts s (hr, hl, ho) =
     λ i. then (read-rule (s .rule) i) (λ rule. then (read-store (s .store) i) (λ store. then (read-value (s .robustness) hr i) (λ robustness. then (read-value (s .limit) hl i) (λ limit. then (read-objects (s .objects) ho i) (λ objects.
     Ok (record { rule = rule; store = store; robustness = robustness; limit = limit; objects = objects }))))))
@@ -68,12 +68,12 @@ read-parts s (hr, hl, ho) =
 joined : (s : Setup) → rejoined 44 (parts s) ≡ setup-bytes s
 joined s = refl
 
-back : (s : Setup) → Short-setup s → setup-in (setup-bytes s) ≡ Ok s
+back : (s : Setup) → Short-setup (10 ^ 18) 64 s → setup-in (setup-bytes s) ≡ Ok s
 back s h = ap (λ l. setup-of (pieces 44 l)) (sym (joined s)) ∙ ap setup-of (unique 44 (parts s) (omega arith) (lacks s h)) ∙ read-parts s h
 
 -- fs is how s is written
 abbrev Is : List (List ℕ) → Setup → Type 0
-Is fs s = Short-setup s × (fs ≡ parts s)
+Is fs s = Short-setup (10 ^ 18) 64 s × (fs ≡ parts s)
 
 rule-ok : (w : List ℕ) (n : RuleName) → rule-in w ≡ Ok n → w ≡ rule-bytes n
 rule-ok w n e = ⊎-elim (λ p. p .0 ∙ ap rule-bytes (p .1)) (λ p. p .0 ∙ ap rule-bytes (p .1)) (either-ok 67 76 Charge Loan w n e)
@@ -115,10 +115,10 @@ module _ (setup : Setup) where
       (λ f. absurd (grind arith))
       (way l 83 _ _ setup e)
 
-  forth : (line : List ℕ) → setup-in line ≡ Ok setup → Short-setup setup × (line ≡ setup-bytes setup)
+  forth : (line : List ℕ) → setup-in line ≡ Ok setup → Short-setup (10 ^ 18) 64 setup × (line ≡ setup-bytes setup)
   forth line e =
       let r = by (pieces 44 line) (letter-in (nth (pieces 44 line) 0)) refl e in
       (r .0, sym (whole 44 line) ∙ ap (rejoined 44) (r .1) ∙ joined setup)
 
-pub setups-read-back : Written-setups-read-back
+pub setups-read-back : Written-setups-read-back (10 ^ 18) 64
 setups-read-back = (back, λ line s. forth s line)

@@ -24,18 +24,23 @@ nth fs i = getD fs i []
 abbrev pub having : {X : Type 0} → ℕ → ℕ → Result X Fault → Result X Fault
 having n count r = cond (eqb count n) r (Err Count)
 
+-- B,place,kind,argument
 abbrev pub begin-of : List ℕ → List ℕ → List ℕ → Result Call Fault
 begin-of p k a = then (value-in p) (λ place. then (value-in k) (λ kind. then (value-in a) (λ argument. Ok (Begin place kind argument))))
 
+-- L,place,object,mode
 abbrev pub lock-of : List ℕ → List ℕ → List ℕ → Result Call Fault
 lock-of p o m = then (value-in p) (λ place. then (value-in o) (λ object. then (mode-in m) (λ mode. Ok (Lock place object mode))))
 
+-- I,place,object
 abbrev pub image-of : List ℕ → List ℕ → Result Call Fault
 image-of p o = then (value-in p) (λ place. then (value-in o) (λ object. Ok (Image place object)))
 
+-- C,place
 abbrev pub commit-of : List ℕ → Result Call Fault
 commit-of p = then (value-in p) (λ place. Ok (Commit place))
 
+-- A,place
 abbrev pub abort-of : List ℕ → Result Call Fault
 abort-of p = then (value-in p) (λ place. Ok (Abort place))
 

@@ -35,6 +35,7 @@ no-field = record { bytes = record { ptr = (0, 0); name = 0; now = [] }; at = 0 
 abbrev pub field : List Field → ℕ → Field
 field fs i = getD fs i no-field
 
+-- by the letter of the first line
 abbrev pub first-by : Option ℕ → List Field → Result Line Fault
 first-by None fs = Err Letter
 first-by (Some c) fs = cond (eqb c 83) (having 6 (length fs) (Ok (lines.Setup (field fs 1) (field fs 2) (field fs 3) (field fs 4) (field fs 5)))) (Err Letter)
@@ -43,6 +44,7 @@ first-by (Some c) fs = cond (eqb c 83) (having 6 (length fs) (Ok (lines.Setup (f
 abbrev pub first-line : List Field → Result Line Fault
 first-line fs = first-by (letter-in (text-of (field fs 0))) fs
 
+-- by the letter of a later line
 abbrev pub later-by : Option ℕ → List Field → Result Line Fault
 later-by None fs = Err Letter
 later-by (Some c) fs =
