@@ -38,10 +38,10 @@ fn word(bytes: &[u8], place: usize) -> u64
 
 impl ImageStore {
     // A store over these bytes.
-    pub fn new(image: Vec<u8>) -> ImageStore
-        ensures { λ r. ⌜ r .image ≡ image ⌝ }
+    pub fn new(bytes: Vec<u8>) -> ImageStore
+        ensures { λ r. ⌜ r .image ≡ bytes ⌝ }
     {
-        ImageStore { image }
+        ImageStore { image: bytes }
     }
 
     // A store over the bytes of so many objects, all at 0.
@@ -91,14 +91,14 @@ pub impl Store for ImageStore as ImageStoreStore {
         ensures replaces { λ _. ⌜ image-values (vec-items (now (self .exit) .image)) ≡ set (image-values (vec-items (now (self .entry) .image))) object value ⌝ }
         ensures whole { λ _. ⌜ vec-items (now (self .exit) .image) ≡ image-written (vec-items (now (self .entry) .image)) object value ⌝ }
     {
-        if object < self.len() {
-            let place = object as usize * BYTES;
-            self.image
-                .as_mut_slice()[place..place + BYTES]
-                .copy_from_slice(&value.to_be_bytes());
-            Some(())
-        } else {
-            None
+        if object >= self.len() {
+            return None;
         }
+        let place = object as usize * BYTES;
+        let bytes = value.to_be_bytes();
+        self.image
+            .as_mut_slice()[place..place + BYTES]
+            .copy_from_slice(&bytes);
+        Some(())
     }
 }

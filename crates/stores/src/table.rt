@@ -19,10 +19,10 @@ pub struct TableStore {
 
 impl TableStore {
     // A store over these numbers.
-    pub fn new(numbers: Vec<u64>) -> TableStore
-        ensures { λ r. ⌜ r .numbers ≡ numbers ⌝ }
+    pub fn new(table: Vec<u64>) -> TableStore
+        ensures { λ r. ⌜ r .numbers ≡ table ⌝ }
     {
-        TableStore { numbers }
+        TableStore { numbers: table }
     }
 
     // A store over so many numbers, all at 0.
@@ -72,11 +72,10 @@ pub impl Store for TableStore as TableStoreStore {
         ensures replaces { λ _. ⌜ table-values (vec-items (now (self .exit) .numbers)) ≡ set (table-values (vec-items (now (self .entry) .numbers))) object value ⌝ }
         ensures whole { λ _. ⌜ vec-items (now (self .exit) .numbers) ≡ table-written (vec-items (now (self .entry) .numbers)) object value ⌝ }
     {
-        if object < self.len() {
-            self.numbers[object as usize] = value;
-            Some(())
-        } else {
-            None
+        if object >= self.len() {
+            return None;
         }
+        self.numbers[object as usize] = value;
+        Some(())
     }
 }

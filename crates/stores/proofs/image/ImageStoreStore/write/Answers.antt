@@ -19,15 +19,15 @@ add-place c = let bs = c .args .self .now .image .items in omega (arith, image-l
 pub part-copy-from-slice-end : need.part-copy-from-slice-end
 part-copy-from-slice-end c = let bs = c .args .self .now .image .items in omega (arith, image-length bs, objects-fit bs)
 
-pub returns-then-object-len : need.returns-then-object-len
-returns-then-object-len c =
+pub returns : need.returns
+returns c =
     let bytes = c .args .self .now .image in
     let bs = bytes .items in
     let k = c .args .object in
     let v = c .args .value in
     let here : k < objects-in bs = omega (arith, image-length bs) in
     let small : v < 2 ^ 64 = omega arith in
-    let is = c .copy-from-slice .ensures .after ∙ c .to-be-bytes .ensures in
+    let is = c .copy-from-slice .ensures .after ∙ c .to-be-bytes-bytes .ensures in
     let written = bytes-written bytes (c .as-mut-slice .result .now) (c .copy-from-slice .last .self) k v (c .as-mut-slice .ensures .value) here is small in
     record {
       answers = object-in (image-values bs) k (omega arith);
@@ -35,8 +35,8 @@ returns-then-object-len c =
       whole = written ∙ cond-in k (objects-in bs) (word-put bs (8 * k) v) bs here;
     }
 
-pub returns-else-object-len : need.returns-else-object-len
-returns-else-object-len c =
+pub returns-then-object-len : need.returns-then-object-len
+returns-then-object-len c =
     let bs = c .args .self .now .image .items in
     let k = c .args .object in
     record {

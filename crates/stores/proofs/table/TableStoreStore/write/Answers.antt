@@ -10,8 +10,8 @@ use Rattle.stores.proofs.table.TableStoreStore.write.Needs as need
 pub index-mut-requires : need.index-mut-requires
 index-mut-requires c κs = omega (arith, table-length (c .args .self .now .numbers .items))
 
-pub returns-then-object-len : need.returns-then-object-len
-returns-then-object-len c =
+pub returns : need.returns
+returns c =
     let xs = c .args .self .now .numbers .items in
     let i = c .args .object in
     let v = c .args .value in
@@ -21,8 +21,8 @@ returns-then-object-len c =
       whole = cond-in i (length (table-values xs)) (set xs i v) xs (omega arith);
     }
 
-pub returns-else-object-len : need.returns-else-object-len
-returns-else-object-len c =
+pub returns-then-object-len : need.returns-then-object-len
+returns-then-object-len c =
     let xs = c .args .self .now .numbers .items in
     let i = c .args .object in
     let v = c .args .value in
