@@ -1,0 +1,3 @@
+pub mod Draw
+pub mod Charge
+pub mod Loan
