@@ -1,6 +1,7 @@
 // The two job rules of the house.
 pub mod charges;
 pub mod draws;
+pub mod laws;
 pub mod loans;
 
 pub use charges::ChargeKind;
