@@ -54,7 +54,7 @@ found otherwise asked [] = (0, (lit≤ tt, refl))
 found otherwise asked (row ∷ rest) =
     let further = found otherwise asked rest in
     let P : Bool → Type 0 = λ b.
-        (k : ℕ) × ((k ≤ length (row ∷ rest)) × (cond b (row .drawn) (draw-or otherwise rest asked) ≡ getD (map (λ row. row .drawn) (row ∷ rest) ++ otherwise ∷ []) k 0)) in
+    (k : ℕ) × ((k ≤ length (row ∷ rest)) × (cond b (row .drawn) (draw-or otherwise rest asked) ≡ getD (map (λ row. row .drawn) (row ∷ rest) ++ otherwise ∷ []) k 0)) in
     elim (leb asked (row .minutes)) as P [ true ↦ (0, (omega arith, refl)) | false ↦ (suc (further .0), (omega (arith, further .1 .0), further .1 .1)) ]
 
 pub on-the-sheet : On-the-sheet draw

@@ -1,0 +1,78 @@
+-- Packs as text: one number to a line.
+use mathlib.Core.Path.{_≡_}
+use mathlib.Core.Bool.{Bool, true, false, cond, not, _&&_}
+use mathlib.Core.List.{List, [], _∷_, _++_}
+use Prim.Native.Nat.{ℕ, _+_, _-_, _*_, _^_}
+use lib.Chars.{codes}
+use lib.Dec.{eqb, leb, ltb}
+use lib.ListN.{length}
+use Rattle.std.specs.Written.{decimal}
+use Rattle.std.specs.declared.option.Option.{Option}
+use Rattle.std.specs.declared.option.Option.the-variants.{Some, None}
+use Rattle.std.specs.declared.result.Result.{Result}
+use Rattle.std.specs.declared.result.Result.the-variants.{Ok, Err}
+use Rattle.planner.specs.declared.packs.Fault.{Fault}
+use Rattle.planner.specs.declared.packs.Fault.the-variants.{NoNumber, TooMany, NoMemory}
+
+-- whether every byte is a decimal digit
+abbrev pub digits : List ℕ → Bool
+digits [] = true
+digits (byte ∷ rest) = (leb 48 byte && leb byte 57) && digits rest
+
+-- the value of digits that stand after those of n
+abbrev pub value-after : ℕ → List ℕ → ℕ
+value-after n [] = n
+value-after n (byte ∷ rest) = value-after (n * 10 + (byte - 48)) rest
+
+-- a line is a number where it is digits, at least one, whose value fits 64 bits
+abbrev pub number-of : List ℕ → Option ℕ
+number-of line = cond (ltb 0 (length line) && (digits line && ltb (value-after 0 line) (2 ^ 64))) (Some (value-after 0 line)) None
+
+-- the bytes before the first line feed
+abbrev pub before-feed : List ℕ → List ℕ
+before-feed [] = []
+before-feed (byte ∷ rest) = cond (eqb byte 10) [] (byte ∷ before-feed rest)
+
+-- the bytes after the first line feed
+abbrev pub after-feed : List ℕ → List ℕ
+after-feed [] = []
+after-feed (byte ∷ rest) = cond (eqb byte 10) rest (after-feed rest)
+
+-- a byte before the first of some lines
+abbrev pub onto : ℕ → List (List ℕ) → List (List ℕ)
+onto byte [] = (byte ∷ []) ∷ []
+onto byte (line ∷ rest) = (byte ∷ line) ∷ rest
+
+-- the lines of a text: a line feed ends each, and may be missing at the end
+unfoldable pub lines-of : List ℕ → List (List ℕ)
+lines-of [] = []
+lines-of (byte ∷ rest) = cond (eqb byte 10) ([] ∷ lines-of rest) (onto byte (lines-of rest))
+
+-- the answer for a line that is this number, and for one that is none
+abbrev pub by-number : {A : Type 0} → Option ℕ → A → (ℕ → A) → A
+by-number None refused taken = refused
+by-number (Some pack) refused taken = taken pack
+
+-- the packs of some lines, after those read from the lines before; or else the first fault
+unfoldable pub packs-after : List ℕ → List (List ℕ) → Result (List ℕ) Fault
+packs-after read [] = Ok read
+packs-after read (line ∷ rest) =
+    cond (ltb (length read) 65536)
+    (by-number (number-of line) (Err (NoNumber (length read + 1))) (λ pack. packs-after (read ++ pack ∷ []) rest))
+    (Err (TooMany (length read + 1)))
+
+-- the packs of a text
+abbrev pub packs-of : List ℕ → Result (List ℕ) Fault
+packs-of text = packs-after [] (lines-of text)
+
+-- a fault is the one that the text has; want of memory may come with any text
+abbrev pub Refuses : Fault → Result (List ℕ) Fault → Type 0
+Refuses (NoNumber line) packs = packs ≡ Err (NoNumber line)
+Refuses (TooMany line) packs = packs ≡ Err (TooMany line)
+Refuses NoMemory packs = Unit {0}
+
+-- what is said of a fault
+abbrev pub fault-text : Fault → List ℕ
+fault-text (NoNumber line) = codes "line " ++ (decimal line ++ codes ": no number of packs' charge")
+fault-text (TooMany line) = codes "line " ++ (decimal line ++ codes ": more than 65536 packs")
+fault-text NoMemory = codes "no memory left"

@@ -1,0 +1,10 @@
+// Reads the charges of packs, and plans for how long they last.
+pub mod packs;
+pub mod plans;
+
+pub use packs::Fault;
+pub use packs::FaultDisplay;
+pub use packs::read_packs;
+pub use plans::Line;
+pub use plans::job_line;
+pub use plans::plan_sheet;
