@@ -1,2 +1,5 @@
 pub mod Left
 pub mod Sheets
+pub mod Numbers
+pub mod Cuts
+pub mod Turns

@@ -73,6 +73,6 @@ Refuses NoMemory packs = Unit {0}
 
 -- what is said of a fault
 abbrev pub fault-text : Fault → List ℕ
-fault-text (NoNumber line) = codes "line " ++ (decimal line ++ codes ": no number of packs' charge")
-fault-text (TooMany line) = codes "line " ++ (decimal line ++ codes ": more than 65536 packs")
-fault-text NoMemory = codes "no memory left"
+fault-text (NoNumber line) = codes "line " ++ (decimal line ++ codes " is no number")
+fault-text (TooMany line) = codes "line " ++ (decimal line ++ codes " is one too many")
+fault-text NoMemory = codes "out of memory"

@@ -5,6 +5,7 @@ ghost use lib.ListN.{length};
 ghost use Rattle.std.specs.Of.Vec.{vec-items};
 ghost use Rattle.std.specs.Results.{Cases};
 ghost use Rattle.std.specs.declared.result.Result.the-variants.{Ok, Err};
+ghost use Rattle.planner.specs.declared.packs.Fault.the-variants.{NoMemory};
 ghost use Rattle.planner.specs.Packs.{number-of, packs-of, before-feed, after-feed, Refuses, fault-text};
 ghost use Rattle.std.specs.declared.option.Option.the-variants.{Some};
 use std::alloc::AllocError;
@@ -25,12 +26,16 @@ pub enum Fault {
 }
 
 pub impl From<AllocError> for Fault as FaultFromAlloc {
+    ghost converts = { λ _ fault. fault ≡ NoMemory };
+
     fn from(_: AllocError) -> Fault {
         Fault::NoMemory
     }
 }
 
 pub impl<T: Drop> From<Refused<T>> for Fault as FaultFromRefused {
+    ghost converts = { λ _ fault. fault ≡ NoMemory };
+
     fn from(_: Refused<T>) -> Fault {
         Fault::NoMemory
     }
@@ -40,10 +45,10 @@ pub impl fmt::Display for Fault as FaultDisplay {
     ghost shown = { λ fault. Some (fault-text fault) };
 
     fn fmt<W: fmt::Write>(&self, f: &mut fmt::Formatter<W>) -> fmt::Result {
-        match self {
-            Fault::NoNumber { line } => write!(f, "line {line}: no number of packs' charge"),
-            Fault::TooMany { line } => write!(f, "line {line}: more than 65536 packs"),
-            Fault::NoMemory => write!(f, "no memory left"),
+        match *self {
+            Fault::NoNumber { line } => write!(f, "line {line} is no number"),
+            Fault::TooMany { line } => write!(f, "line {line} is one too many"),
+            Fault::NoMemory => write!(f, "out of memory"),
         }
     }
 }
