@@ -4,6 +4,7 @@ pub mod plans;
 
 pub use packs::Fault;
 pub use packs::FaultDisplay;
+pub use packs::FaultError;
 pub use packs::read_packs;
 pub use plans::Line;
 pub use plans::job_line;

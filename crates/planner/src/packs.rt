@@ -11,6 +11,7 @@ ghost use Rattle.std.specs.declared.option.Option.the-variants.{Some};
 use std::alloc::AllocError;
 use std::alloc::Global;
 use std::alloc::Refused;
+use std::error::Error;
 use std::fmt;
 
 const MOST_PACKS: usize = 65536;
@@ -52,6 +53,8 @@ pub impl fmt::Display for Fault as FaultDisplay {
         }
     }
 }
+
+pub impl Error for Fault as FaultError {}
 
 // The number that a line tells: decimal digits, at least one, and of at most 64 bits.
 pub fn number(line: &[u8]) -> Option<u64>

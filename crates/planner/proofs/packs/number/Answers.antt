@@ -26,9 +26,11 @@ returns-then-value-digit c =
 pub loop-byte-again : need.loop-byte-again
 loop-byte-again c =
     let line = c .args .line .now in
-    let i = c .loop-byte .byte-index in
-    (omega arith, ap (λ d. number-after (c .loop-byte .value * 10 + d) (drop (i + 1) line)) (c .from-digit .ensures)
-    ∙ sym (one-digit (c .loop-byte .value) line i (c .loop-byte-test .taken) (c .if-byte-lt48 .left) (c .if-byte-gt57 .left)) ∙ c .loop-byte .inv .1)
+    let i = c .loop-byte .byte-index in (
+      omega arith,
+      ap (λ d. number-after (c .loop-byte .value * 10 + d) (drop (i + 1) line)) (c .from-digit .ensures)
+          ∙ sym (one-digit (c .loop-byte .value) line i (c .loop-byte-test .taken) (c .if-byte-lt48 .left) (c .if-byte-gt57 .left)) ∙ c .loop-byte .inv .1,
+    )
 
 pub returns : need.returns
 returns c = sym (all-read (c .loop-byte .value) (c .args .line .now) (c .loop-byte .byte-index) (c .loop-byte-test .left) (c .loop-byte .inv .0)) ∙ c .loop-byte .inv .1
