@@ -22,5 +22,9 @@ fn run(rt: &LibcRuntime) -> Result<(), AnyError> {
 }
 
 fn main(rt: LibcRuntime) -> Result<(), AnyError> {
-    rt.report(run(&rt))
+    let result = run(&rt);
+    if let Err(error) = &result {
+        eprintln!(rt, "sheet: {error}")?;
+    }
+    result
 }
