@@ -1,5 +1,6 @@
 // What a storeskeeper may count on in the two rules. Each function stands for a law, which its contract states; it answers 0.
 ghost use mathlib.Core.Bool.{true, false};
+ghost use Prim.Native.Nat.{_-_};
 ghost use Rattle.house.specs.Draw.{draw};
 ghost use Rattle.house.specs.Charge.{charge-rule};
 ghost use Rattle.house.specs.Loan.{loan-rule};
