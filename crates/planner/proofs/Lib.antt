@@ -3,3 +3,4 @@ pub mod Sheets
 pub mod Numbers
 pub mod Cuts
 pub mod Turns
+pub mod Written

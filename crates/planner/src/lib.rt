@@ -1,4 +1,5 @@
 // Reads the charges of packs, and plans for how long they last.
+pub mod laws;
 pub mod packs;
 pub mod plans;
 
