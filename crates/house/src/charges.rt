@@ -5,7 +5,7 @@ use super::draws::draw_at;
 use terms::JobRule;
 use terms::Mode;
 
-#[derive(Clone, Copy, PartialEq, Eq, Debug)]
+#[derive(Clone, Copy)]
 pub enum ChargeKind {
     // adds the argument to a pack
     Charge,

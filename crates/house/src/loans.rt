@@ -5,7 +5,7 @@ ghost use Rattle.house.specs.Loan.{loan-kind, loan-rule, team, due-day, loan};
 use terms::JobRule;
 use terms::Mode;
 
-#[derive(Clone, Copy, PartialEq, Eq, Debug)]
+#[derive(Clone, Copy)]
 pub enum LoanKind {
     // gives a pack that is on the shelf to a team
     Lend,
@@ -30,7 +30,7 @@ impl LoanKind {
 }
 
 // A team and a due day, as a value of the loan rule has them. Team 0 is the shelf, and day 0 is no due day.
-#[derive(Clone, Copy, PartialEq, Eq, Debug)]
+#[derive(Clone, Copy)]
 pub struct Loan {
     pub team: u32,
     pub due_day: u32,
