@@ -11,9 +11,10 @@ use Rattle.std.specs.declared.option.Option.{Option}
 use Rattle.std.specs.declared.option.Option.the-variants.{Some, None}
 use Rattle.std.specs.declared.result.Result.{Result}
 use Rattle.std.specs.declared.result.Result.the-variants.{Ok, Err}
-use Rattle.planner.specs.declared.packs.Fault.{Fault}
-use Rattle.planner.specs.declared.packs.Fault.the-variants.{NoNumber, TooMany}
-use Rattle.planner.specs.Packs.{number-of, by-number, before-feed, after-feed, lines-of, packs-after}
+use Rattle.planner.specs.declared.faults.Fault.{Fault}
+use Rattle.planner.specs.declared.faults.Fault.the-variants.{NoNumber, TooMany}
+use Rattle.planner.specs.Numbers.{number-of}
+use Rattle.planner.specs.Packs.{by-number, before-feed, after-feed, lines-of, packs-after}
 use Rattle.planner.proofs.Cuts.{first-line}
 
 module _ (read text : List ℕ) (some : 0 < length text) where

@@ -15,7 +15,8 @@ use Rattle.std.specs.Written.{decimal}
 use Rattle.std.specs.shelf.Lists.{All}
 use Rattle.std.specs.declared.option.Option.the-variants.{Some}
 use Rattle.std.specs.declared.result.Result.the-variants.{Ok}
-use Rattle.planner.specs.Packs.{digits, value-after, number-of, before-feed, after-feed, lines-of, packs-after}
+use Rattle.planner.specs.Numbers.{digits, value-after, number-of}
+use Rattle.planner.specs.Packs.{before-feed, after-feed, lines-of, packs-after}
 use Rattle.planner.specs.PackLaws.{written, Reads-back}
 use Rattle.planner.proofs.Turns.{pack-read, text-ends}
 

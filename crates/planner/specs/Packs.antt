@@ -1,32 +1,16 @@
 -- Packs as text: one number to a line.
-use mathlib.Core.Path.{_≡_}
-use mathlib.Core.Bool.{Bool, true, false, cond, not, _&&_}
+use mathlib.Core.Bool.{cond}
 use mathlib.Core.List.{List, [], _∷_, _++_}
-use Prim.Native.Nat.{ℕ, _+_, _-_, _*_, _^_}
-use lib.Chars.{codes}
-use lib.Dec.{eqb, leb, ltb}
+use Prim.Native.Nat.{ℕ, _+_}
+use lib.Dec.{eqb, ltb}
 use lib.ListN.{length}
-use Rattle.std.specs.Written.{decimal}
 use Rattle.std.specs.declared.option.Option.{Option}
 use Rattle.std.specs.declared.option.Option.the-variants.{Some, None}
 use Rattle.std.specs.declared.result.Result.{Result}
 use Rattle.std.specs.declared.result.Result.the-variants.{Ok, Err}
-use Rattle.planner.specs.declared.packs.Fault.{Fault}
-use Rattle.planner.specs.declared.packs.Fault.the-variants.{NoNumber, TooMany, NoMemory}
-
--- whether every byte is a decimal digit
-abbrev pub digits : List ℕ → Bool
-digits [] = true
-digits (byte ∷ rest) = (leb 48 byte && leb byte 57) && digits rest
-
--- the value of digits that stand after those of n
-abbrev pub value-after : ℕ → List ℕ → ℕ
-value-after n [] = n
-value-after n (byte ∷ rest) = value-after (n * 10 + (byte - 48)) rest
-
--- a line is a number where it is digits, at least one, whose value fits 64 bits
-abbrev pub number-of : List ℕ → Option ℕ
-number-of line = cond (ltb 0 (length line) && (digits line && ltb (value-after 0 line) (2 ^ 64))) (Some (value-after 0 line)) None
+use Rattle.planner.specs.declared.faults.Fault.{Fault}
+use Rattle.planner.specs.declared.faults.Fault.the-variants.{NoNumber, TooMany}
+use Rattle.planner.specs.Numbers.{number-of}
 
 -- the bytes before the first line feed
 abbrev pub before-feed : List ℕ → List ℕ
@@ -64,15 +48,3 @@ packs-after read (line ∷ rest) =
 -- the packs of a text
 abbrev pub packs-of : List ℕ → Result (List ℕ) Fault
 packs-of text = packs-after [] (lines-of text)
-
--- a fault is the one that the text has; want of memory may come with any text
-abbrev pub Refuses : Fault → Result (List ℕ) Fault → Type 0
-Refuses (NoNumber line) packs = packs ≡ Err (NoNumber line)
-Refuses (TooMany line) packs = packs ≡ Err (TooMany line)
-Refuses NoMemory packs = Unit {0}
-
--- what is said of a fault
-abbrev pub fault-text : Fault → List ℕ
-fault-text (NoNumber line) = codes "line " ++ (decimal line ++ codes " is no number")
-fault-text (TooMany line) = codes "line " ++ (decimal line ++ codes " is one too many")
-fault-text NoMemory = codes "out of memory"

@@ -1,81 +1,17 @@
 // Reads the charges of packs from text, one number to a line.
 ghost use mathlib.Core.Path.{_≡_};
-ghost use Prim.Native.Nat.{_+_, _≤_, _<_};
 ghost use lib.ListN.{length};
 ghost use Rattle.std.specs.Of.Vec.{vec-items};
 ghost use Rattle.std.specs.Results.{Cases};
-ghost use Rattle.std.specs.declared.result.Result.the-variants.{Ok, Err};
-ghost use Rattle.planner.specs.declared.packs.Fault.the-variants.{NoMemory};
-ghost use Rattle.planner.specs.Packs.{number-of, packs-of, before-feed, after-feed, Refuses, fault-text};
-ghost use Rattle.std.specs.declared.option.Option.the-variants.{Some};
-use std::alloc::AllocError;
+ghost use Rattle.std.specs.declared.result.Result.the-variants.{Ok};
+ghost use Rattle.planner.specs.Faults.{Refuses};
+ghost use Rattle.planner.specs.Packs.{packs-of, before-feed, after-feed};
+use super::faults::Fault;
+use super::faults::FaultFromRefused;
+use super::numbers::number;
 use std::alloc::Global;
-use std::alloc::Refused;
-use std::error::Error;
-use std::fmt;
 
 const MOST_PACKS: usize = 65536;
-
-// Why packs are not read.
-#[derive(Clone, Copy, PartialEq, Eq, Debug)]
-pub enum Fault {
-    // this line is no number of at most 64 bits
-    NoNumber { line: usize },
-    // this line is one more than there may be packs
-    TooMany { line: usize },
-    NoMemory,
-}
-
-pub impl From<AllocError> for Fault as FaultFromAlloc {
-    ghost converts = { λ _ fault. fault ≡ NoMemory };
-
-    fn from(_: AllocError) -> Fault {
-        Fault::NoMemory
-    }
-}
-
-pub impl<T: Drop> From<Refused<T>> for Fault as FaultFromRefused {
-    ghost converts = { λ _ fault. fault ≡ NoMemory };
-
-    fn from(_: Refused<T>) -> Fault {
-        Fault::NoMemory
-    }
-}
-
-pub impl fmt::Display for Fault as FaultDisplay {
-    ghost shown = { λ fault. Some (fault-text fault) };
-
-    fn fmt<W: fmt::Write>(&self, f: &mut fmt::Formatter<W>) -> fmt::Result {
-        match *self {
-            Fault::NoNumber { line } => write!(f, "line {line} is no number"),
-            Fault::TooMany { line } => write!(f, "line {line} is one too many"),
-            Fault::NoMemory => write!(f, "out of memory"),
-        }
-    }
-}
-
-pub impl Error for Fault as FaultError {}
-
-// The number that a line tells: decimal digits, at least one, and of at most 64 bits.
-pub fn number(line: &[u8]) -> Option<u64>
-    ensures { λ r. ⌜ r ≡ number-of (now (line .entry)) ⌝ }
-{
-    if line.is_empty() {
-        return None;
-    }
-    let mut value: u64 = 0;
-    for byte in line {
-        if *byte < b'0' || *byte > b'9' {
-            return None;
-        }
-        let digit = u64::from(*byte - b'0');
-        if value > (u64::MAX - digit) / 10 {
-            return None;
-        }
-        value = value * 10 + digit;
-    }
-    Some(value)
-}
 
 // How many bytes stand before the first line feed.
 fn line_length(text: &[u8]) -> usize

@@ -6,9 +6,10 @@ use native.Mathlib.Omega.{arith}
 use lib.Dec.{eqb}
 use lib.ListN.{length}
 use Rattle.std.specs.declared.result.Result.the-variants.{Err}
-use Rattle.planner.specs.declared.packs.Fault.the-variants.{NoNumber, TooMany}
+use Rattle.planner.specs.declared.faults.Fault.the-variants.{NoNumber, TooMany}
 use Rattle.std.proofs.shelf.Tests.{eqb-false, eqb-true}
-use Rattle.planner.specs.Packs.{number-of, after-feed, lines-of, packs-after}
+use Rattle.planner.specs.Numbers.{number-of}
+use Rattle.planner.specs.Packs.{after-feed, lines-of, packs-after}
 use Rattle.planner.proofs.Cuts.{after-shorter}
 use Rattle.planner.proofs.Turns.{pack-read, no-pack, one-too-many, text-ends}
 use Rattle.planner.proofs.packs.read_packs.Needs as need

@@ -10,7 +10,7 @@ use Rattle.std.proofs.shelf.Lists.{at-drop-more, at-drop-all}
 use Rattle.std.proofs.shelf.Ways.{tells}
 use Rattle.std.specs.declared.option.Option.{Option}
 use Rattle.std.specs.declared.option.Option.the-variants.{Some, None}
-use Rattle.planner.specs.Packs.{digits, value-after, number-of}
+use Rattle.planner.specs.Numbers.{digits, value-after, number-of}
 
 -- the number of digits that stand after those of n
 abbrev pub number-after : ℕ → List ℕ → Option ℕ

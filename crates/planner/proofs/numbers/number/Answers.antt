@@ -5,9 +5,9 @@ use native.Mathlib.Omega.{arith}
 use lib.Dec.{leb}
 use lib.ListN.{getD, drop}
 use Rattle.std.proofs.shelf.Ways.{tells}
-use Rattle.planner.proofs.Numbers.{number-after, one-digit, no-digit, too-large, all-read}
-use Rattle.planner.proofs.packs.number.Needs as need
-use Rattle.planner.proofs.packs.number.Needs.{then-byte-lt48·by·then-byte-lt48, then-byte-lt48·by·else-byte-lt48·then-byte-gt57}
+use Rattle.planner.proofs.Digits.{number-after, one-digit, no-digit, too-large, all-read}
+use Rattle.planner.proofs.numbers.number.Needs as need
+use Rattle.planner.proofs.numbers.number.Needs.{then-byte-lt48·by·then-byte-lt48, then-byte-lt48·by·else-byte-lt48·then-byte-gt57}
 
 pub returns-then-byte-lt48 : need.returns-then-byte-lt48
 returns-then-byte-lt48 c =

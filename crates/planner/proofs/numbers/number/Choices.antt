@@ -1,9 +1,9 @@
 use mathlib.Core.Path.{_≡_}
 use Prim.Native.Nat.{_^_, _<_}
 use lib.ListN.{drop}
-use Rattle.planner.specs.Packs.{number-of}
-use Rattle.planner.proofs.Numbers.{number-after}
-use Rattle.planner.proofs.packs.number.Given as given
+use Rattle.planner.specs.Numbers.{number-of}
+use Rattle.planner.proofs.Digits.{number-after}
+use Rattle.planner.proofs.numbers.number.Given as given
 
 -- the bytes that are left bring the value to its end
 abbrev pub Inv-loop-byte : given.InvT-loop-byte
