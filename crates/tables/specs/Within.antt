@@ -10,9 +10,11 @@ use Rattle.protocol.specs.declared.holdings.Holding.{Holding}
 use Rattle.protocol.specs.declared.jobs.Job.{Job}
 use Rattle.protocol.specs.Lists.{keep}
 
+-- the job of an execution
 abbrev pub job-of-execution : Execution → ℕ
 job-of-execution e = e .job
 
+-- the job of a holding
 abbrev pub job-of-holding : Holding → ℕ
 job-of-holding h = h .job
 

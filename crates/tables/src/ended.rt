@@ -5,6 +5,7 @@ ghost use mathlib.Core.List.{List, map};
 ghost use Prim.Native.Nat.{ℕ, _<_, _≤_};
 ghost use lib.Dec.{eqb};
 ghost use lib.ListN.{length, replicate};
+ghost use Rattle.protocol.specs.Places.{single, without};
 ghost use Rattle.protocol.specs.Settling.{survives, settled};
 ghost use Rattle.tables.specs.Ended.{others, settled-records, padded};
 use super::records::Assuming;
@@ -23,22 +24,35 @@ fn survives(assumption: Assumption, place: u8, ending: Ending) -> bool
     }
 }
 
+// The set without the job.
+fn without(set: PlaceSet, place: u8) -> PlaceSet
+    ensures { λ r. ⌜ r .mask ≡ without (set .mask) (single place) ⌝ }
+{
+    set.without(PlaceSet::only(place))
+}
+
 // The assumption with the job taken out of both sets.
 fn settled(assumption: Assumption, place: u8) -> Assumption
     ensures { λ r. ⌜ r ≡ settled place assumption ⌝ }
 {
-    let ended = PlaceSet::only(place);
     Assumption {
-        commits: assumption.commits.without(ended),
-        aborts: assumption.aborts.without(ended),
+        commits: without(assumption.commits, place),
+        aborts: without(assumption.aborts, place),
     }
+}
+
+// Whether a record is of another job.
+fn is_other<T: NamesJob>(record: &T, place: u8) -> bool
+    ensures { λ r. ⌜ r ≡ not (eqb (T·NamesJob .named (now («record» .entry))) place) ⌝ }
+{
+    record.job() != place
 }
 
 // Whether a record is left once the job has ended.
 fn stays<T: Assuming>(record: &T, place: u8, ending: Ending) -> bool
     ensures { λ r. ⌜ r ≡ (not (eqb (T·NamesJob .named (now («record» .entry))) place) && survives ending place (T·Assuming .taken (now («record» .entry)))) ⌝ }
 {
-    record.job() != place && survives(record.assumption(), place, ending)
+    is_other(record, place) && survives(record.assumption(), place, ending)
 }
 
 // Empties every place.
@@ -75,7 +89,7 @@ pub fn remove_job<T: NamesJob>(records: &mut [T], empty: T, place: u8) -> usize
     let mut live = 0;
     for i in 0..records.len() {
         let record = records[i];
-        if record.job() != place {
+        if is_other(&record, place) {
             records[live] = record;
             live += 1;
         }

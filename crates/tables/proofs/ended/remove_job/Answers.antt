@@ -6,27 +6,25 @@ use lib.Dec.{eqb}
 use lib.ListN.{length}
 use Rattle.std.specs.shelf.Lists.{kept-by}
 use Rattle.std.proofs.shelf.Lists.{map-id}
-use Rattle.std.proofs.shelf.Tests.{eq-eqb, ne-eqb}
 use Rattle.tables.specs.Ended.{padded}
 use Rattle.tables.proofs.Sifting.{sifting-passes, sifting-goes, sifted-count, sifted-padded}
 use Rattle.tables.proofs.ended.remove_job.Needs as need
-use Rattle.tables.proofs.ended.remove_job.Needs.{then-job-place, else-job-place}
+use Rattle.tables.proofs.ended.remove_job.Needs.{then-is-other, else-is-other}
 
 pub loop-i-again : need.loop-i-again
 loop-i-again g c =
-    let named = g .T·NamesJob .named in
-    let t : g .T .Denot → Bool = λ x. not (eqb (named x) (c .args .place)) in
+    let t : g .T .Denot → Bool = λ x. not (eqb (g .T·NamesJob .named x) (c .args .place)) in
     let xs = c .args .records .now in
     let ys = c .loop-i .records in
     let x = c .index-records-i .result in
     let l : c .loop-i .i < length ys = omega (arith, c .loop-i .inv .long) in
-    elim (c .if-job-place .came) [
-      | then-job-place w ↦
-          let e : t x ≡ true = ap not (ne-eqb (named x) (c .args .place) (λ e. w .if-job-place .taken (c .job .ensures ∙ e))) in
-          rw (w .records-is, w .live-is) (sifting-passes t (λ x. x) xs ys (c .loop-i .live) (c .loop-i .i) x (c .loop-i .inv) l (c .index-records-i .is) x refl e)
-      | else-job-place w ↦
-          let e : t x ≡ false = ap not (eq-eqb (named x) (c .args .place) (sym (c .job .ensures) ∙ w .if-job-place .left)) in
-          rw (w .records-is, w .live-is) (sifting-goes t (λ x. x) xs ys (c .loop-i .live) (c .loop-i .i) x (c .loop-i .inv) l (c .index-records-i .is) e)
+    elim (c .if-is-other .came) [
+      | then-is-other w ↦
+          rw (w .records-is, w .live-is)
+          (sifting-passes t (λ x. x) xs ys (c .loop-i .live) (c .loop-i .i) x (c .loop-i .inv) l (c .index-records-i .is) x refl (sym (c .is-other .ensures) ∙ w .if-is-other .taken))
+      | else-is-other w ↦
+          rw (w .records-is, w .live-is)
+          (sifting-goes t (λ x. x) xs ys (c .loop-i .live) (c .loop-i .i) x (c .loop-i .inv) l (c .index-records-i .is) (sym (c .is-other .ensures) ∙ w .if-is-other .left))
     ]
 
 pub returns : need.returns
