@@ -1,8 +1,8 @@
 -- Holdings at places give sets of places: nothing is cut off.
-use mathlib.Core.Path.{_≡_, refl, sym, ap, subst, _∙_}
+use mathlib.Core.Path.{_≡_, sym, subst}
 use mathlib.Core.Bool.{Bool, true, false, cond}
 use mathlib.Core.List.{List, [], _∷_}
-use Prim.Native.Nat.{ℕ, zero, suc, _<_, _≤_}
+use Prim.Native.Nat.{ℕ, suc, _<_}
 use native.Mathlib.Omega.{arith}
 use Rattle.protocol.specs.declared.holdings.Holding.{Holding}
 use Rattle.protocol.specs.Holdings.{jobs-of, makers, later-makers, holds, waits, new-waits, reach, would-ring}

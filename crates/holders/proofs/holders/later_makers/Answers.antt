@@ -1,5 +1,6 @@
 use mathlib.Core.Path.{_≡_, sym, ap, _∙_}
 use Prim.Native.Nat.{_+_}
+use lib.ListN.{drop}
 use Rattle.std.proofs.shelf.Lists.{at-drop-all, take-rest}
 use Rattle.protocol.specs.Holdings.{later-makers, makers}
 use Rattle.protocol.specs.Places.{placed}
@@ -11,8 +12,9 @@ pub returns-then-passes : need.returns-then-passes
 returns-then-passes c =
     let hs = c .args .holdings .now in
     let i = c .loop-i .i in
-    c .makers .ensures
-    ∙ ap placed (ap (makers (c .args .object)) (take-rest hs (i + 1)) ∙ sym (later-here (c .args .object) (c .args .place) hs i (c .loop-i-test .taken) (sym (c .if-passes .ensures tt))) ∙ c .loop-i .inv)
+    let here : later-makers (c .args .object) (c .args .place) (drop i hs) ≡ makers (c .args .object) (drop (i + 1) hs) =
+    later-here (c .args .object) (c .args .place) hs i (c .loop-i-test .taken) (sym (c .if-passes .ensures tt)) in
+    c .makers .ensures ∙ ap placed (ap (makers (c .args .object)) (take-rest hs (i + 1)) ∙ sym here ∙ c .loop-i .inv)
 
 pub loop-i-again : need.loop-i-again
 loop-i-again c =

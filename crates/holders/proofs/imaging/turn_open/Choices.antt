@@ -1,7 +1,6 @@
 use mathlib.Core.Path.{_≡_}
 use mathlib.Core.List.{map, _++_}
 use lib.ListN.{take, drop}
-use Rattle.terms.specs.declared.calls.Call.the-variants.{Image}
 use Rattle.protocol.specs.Holdings.{turn}
 use Rattle.holders.proofs.imaging.turn_open.Given as given
 

@@ -1,12 +1,11 @@
-use mathlib.Core.Path.{_≡_, sym, ap, _∙_}
+use mathlib.Core.Path.{_≡_, ap, _∙_}
 use lib.ListN.{getD, take}
-use native.Mathlib.Omega.{arith}
 use Rattle.std.proofs.shelf.Lists.{take-all}
 use Rattle.protocol.specs.Holdings.{waits, new-waits}
 use Rattle.protocol.specs.Places.{join, placed}
 use Rattle.holders.specs.Placed.{blank}
 use Rattle.holders.specs.Sets.{mask-at}
-use Rattle.holders.proofs.OneMore.{Waiting, waiting-none, waiting-more, waiting-skip}
+use Rattle.holders.proofs.OneMore.{waiting-none, waiting-more, waiting-skip}
 use Rattle.holders.proofs.waits.waiting.Needs as need
 use Rattle.holders.proofs.waits.waiting.Needs.{then-place-lt16, else-place-lt16}
 

@@ -1,10 +1,8 @@
-use mathlib.Core.Path.{_≡_, sym, ap, _∙_}
+use mathlib.Core.Path.{_≡_, ap, _∙_}
 use mathlib.Core.Bool.{true, false}
-use mathlib.Core.List.{List}
-use Prim.Native.Nat.{ℕ, _+_}
+use Prim.Native.Nat.{_+_}
 use lib.ListN.{getD, drop}
 use Rattle.std.proofs.shelf.Lists.{take-rest}
-use Rattle.protocol.specs.declared.holdings.Holding.{Holding}
 use Rattle.protocol.specs.Holdings.{waits}
 use Rattle.protocol.specs.Places.{single, join, placed}
 use Rattle.holders.specs.Placed.{blank}
