@@ -36,3 +36,4 @@ pub mod HistoryReads
 pub mod HistoryExact
 pub mod HistoryBook
 pub mod RelyingExact
+pub mod RefusalExact

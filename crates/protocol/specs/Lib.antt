@@ -21,6 +21,7 @@ pub mod Cases
 pub mod SetLaws
 pub mod WaitingLaws
 pub mod RingTest
+pub mod RefusalLaws
 pub mod PairingLaws
 pub mod SettlingLaws
 pub mod VersionOrder

@@ -2,6 +2,7 @@
 ghost use Rattle.protocol.specs.Law.{Stands};
 ghost use Rattle.protocol.specs.HistoryLaws.{History-laws};
 ghost use Rattle.protocol.specs.PairingLaws.{Pairing-laws};
+ghost use Rattle.protocol.specs.RefusalLaws.{Refusal-laws};
 ghost use Rattle.protocol.specs.RelyingLaws.{Relying-laws};
 ghost use Rattle.protocol.specs.RingTest.{Ring-test};
 ghost use Rattle.protocol.specs.SetLaws.{Set-laws};
@@ -20,6 +21,13 @@ pub fn overlapping_jobs_leave_what_they_would_one_by_one() -> u8
 // Sets of places, told by their members.
 pub fn sets_have_the_members_they_should() -> u8
     ensures { λ _. ⌜ Set-laws ⌝ }
+{
+    0
+}
+
+// Which number a call is answered.
+pub fn the_first_reason_that_applies_is_answered() -> u8
+    ensures { λ _. ⌜ Refusal-laws ⌝ }
 {
     0
 }
