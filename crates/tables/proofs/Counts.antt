@@ -101,8 +101,8 @@ module _ {A : Type 0} (job : A → ℕ) where
       let less : (p : ℕ) → count job p (others job n xs) ≤ count job p xs = λ p. count-keep (λ x. not (eqb (job x) n)) p xs in
       let rest : length (others job n xs) ≤ n * b =
       few n b (others job n xs) (λ p l. omega (arith, h p (omega arith), less p)) (λ p l.
-          elim (cases-eq p n) [
-            | inl e ↦ omega (arith, ap (λ q. count job q (others job n xs)) e, count-others n xs)
-            | inr ne ↦ omega (arith, k p (omega arith), less p)
-          ]) in
+      elim (cases-eq p n) [
+        | inl e ↦ omega (arith, ap (λ q. count job q (others job n xs)) e, count-others n xs)
+        | inr ne ↦ omega (arith, k p (omega arith), less p)
+      ]) in
       omega (arith, count-parts n xs, h n (omega arith), suc-mul n b)

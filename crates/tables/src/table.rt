@@ -4,8 +4,9 @@ ghost use Prim.Native.Nat.{ℕ, _-_, _≤_};
 ghost use lib.ListN.{length, drop, replicate};
 
 mod access;
-mod ended;
-mod turning;
+mod executions;
+mod holdings;
+mod versions;
 
 #[derive(Drop)]
 pub struct Table<T, const N: usize> {

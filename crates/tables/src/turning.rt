@@ -7,22 +7,18 @@ ghost use Rattle.protocol.specs.Holdings.{turn};
 use protocol::Holding;
 use protocol::HoldingState;
 
+// The holding as it is once the job has imaged the object.
 fn turned(holding: Holding, place: u8, object: u64) -> Holding
     ensures { λ r. ⌜ r ≡ turn place object holding ⌝ }
 {
-    match holding.state {
-        HoldingState::Open => {
-            if holding.job == place && holding.object == object {
-                Holding {
-                    state: HoldingState::Turned,
-                    ..holding
-                }
-            } else {
-                holding
-            }
-        }
-        HoldingState::Reading | HoldingState::Turned => holding,
+    if holding.job != place || holding.object != object {
+        return holding;
     }
+    let state = match holding.state {
+        HoldingState::Reading => HoldingState::Reading,
+        HoldingState::Open | HoldingState::Turned => HoldingState::Turned,
+    };
+    Holding { state, ..holding }
 }
 
 // Turns the job's open holding of the object.

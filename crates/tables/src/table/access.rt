@@ -3,42 +3,9 @@ ghost use mathlib.Core.Path.{_≡_};
 ghost use mathlib.Core.List.{List, [], _∷_, _++_};
 ghost use Prim.Native.Nat.{ℕ, _+_, _-_, _<_, _≤_};
 ghost use lib.ListN.{length, replicate};
-ghost use Rattle.tables.specs.Empty.{no-execution, no-version};
 ghost use Rattle.tables.specs.Items.{items, Added};
 use super::Full;
 use super::Table;
-use protocol::Execution;
-use protocol::Version;
-
-impl Table<Execution, 256> {
-    // 256 executions, every one of them empty.
-    pub fn executions() -> Table<Execution, 256>
-        ensures starts { λ r. ⌜ items r ≡ [] ⌝ }
-        ensures whole { λ r. ⌜ r .records ≡ replicate 256 no-execution ⌝ }
-        ensures spare { λ r. ⌜ r .empty ≡ no-execution ⌝ }
-    {
-        Table {
-            records: [Execution::EMPTY; 256],
-            count: 0,
-            empty: Execution::EMPTY,
-        }
-    }
-}
-
-impl Table<Version, 256> {
-    // 256 versions, every one of them empty.
-    pub fn versions() -> Table<Version, 256>
-        ensures starts { λ r. ⌜ items r ≡ [] ⌝ }
-        ensures whole { λ r. ⌜ r .records ≡ replicate 256 no-version ⌝ }
-        ensures spare { λ r. ⌜ r .empty ≡ no-version ⌝ }
-    {
-        Table {
-            records: [Version::EMPTY; 256],
-            count: 0,
-            empty: Version::EMPTY,
-        }
-    }
-}
 
 impl<T: Copy, const N: usize> Table<T, N> {
     // A table with nothing in use.
@@ -54,6 +21,7 @@ impl<T: Copy, const N: usize> Table<T, N> {
         }
     }
 
+    // Those in use, in order.
     pub fn in_use(&self) -> &[T]
         ensures { λ r. ⌜ now r ≡ items (now (self .entry)) ⌝ }
     {
@@ -61,12 +29,14 @@ impl<T: Copy, const N: usize> Table<T, N> {
         &all[..self.count]
     }
 
+    // How many are in use.
     pub fn len(&self) -> usize
         ensures { λ r. ⌜ r ≡ length (items (now (self .entry))) ⌝ }
     {
-        self.count
+        self.in_use().len()
     }
 
+    // Adds the record where there is room.
     fn put(&mut self, record: T)
         requires { ⌜ now self .count < N ⌝ }
         ensures becomes { λ _. ⌜ items (now (self .exit)) ≡ items (now (self .entry)) ++ «record» ∷ [] ⌝ }
