@@ -37,3 +37,4 @@ pub mod HistoryExact
 pub mod HistoryBook
 pub mod RelyingExact
 pub mod RefusalExact
+pub mod CommitExact

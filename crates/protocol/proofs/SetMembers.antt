@@ -95,7 +95,7 @@ has-placed a k = elim (cases-lt k 16) [
 
 pub set-laws : Set-laws
 set-laws = record {
-  told = same-members;
+  same = same-members;
   none = has-zero;
   alone = has-single;
   joined = has-join;

@@ -24,6 +24,7 @@ pub mod RingTest
 pub mod RefusalLaws
 pub mod PairingLaws
 pub mod SettlingLaws
+pub mod CommitLaws
 pub mod VersionOrder
 pub mod HistoryLaws
 pub mod RelyingLaws

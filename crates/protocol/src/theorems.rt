@@ -1,5 +1,6 @@
 // The theorems that the definitions stand under, each on the contract of a function named after what it says.
 ghost use Rattle.protocol.specs.Law.{Stands};
+ghost use Rattle.protocol.specs.CommitLaws.{Commit-laws};
 ghost use Rattle.protocol.specs.HistoryLaws.{History-laws};
 ghost use Rattle.protocol.specs.PairingLaws.{Pairing-laws};
 ghost use Rattle.protocol.specs.RefusalLaws.{Refusal-laws};
@@ -56,6 +57,13 @@ pub fn a_lock_keeps_exactly_the_pairs_that_agree() -> u8
 // What a commit and an abort leave.
 pub fn an_end_drops_exactly_what_took_the_other_ending() -> u8
     ensures { λ _. ⌜ Settling-laws ⌝ }
+{
+    0
+}
+
+// What a job has when it commits, and what is then in the store.
+pub fn a_commit_writes_the_one_version_of_each_turned_object() -> u8
+    ensures { λ _. ⌜ Commit-laws ⌝ }
 {
     0
 }
