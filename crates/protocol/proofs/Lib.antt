@@ -38,3 +38,4 @@ pub mod HistoryBook
 pub mod RelyingExact
 pub mod RefusalExact
 pub mod CommitExact
+pub mod ReasonsTell

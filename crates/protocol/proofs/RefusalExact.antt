@@ -70,6 +70,7 @@ rising r m (Abort p) = refl
 pub refusal-laws : Refusal-laws
 unfolding answer step
 refusal-laws = record {
+  rising-new = λ robustness limit. refl;
   rising = rising;
   refused = λ r m c x. (some-first (refusals r m c) x, first-some (refusals r m c) x);
   granted = λ r m c. (none-first (refusals r m c), first-none (refusals r m c));

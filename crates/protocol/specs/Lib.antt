@@ -22,6 +22,7 @@ pub mod SetLaws
 pub mod WaitingLaws
 pub mod RingTest
 pub mod RefusalLaws
+pub mod Reasons
 pub mod PairingLaws
 pub mod SettlingLaws
 pub mod CommitLaws

@@ -13,7 +13,7 @@ use Rattle.protocol.specs.declared.refusals.Refusal.{Refusal}
 use Rattle.protocol.specs.Lists.{In, All}
 use Rattle.protocol.specs.Model.{Model}
 use Rattle.protocol.specs.Refusals.{refusal-number}
-use Rattle.protocol.specs.Step.{refusals, answer, next, step}
+use Rattle.protocol.specs.Step.{new-refusals, refusals, answer, next, step}
 
 -- the numbers that a call may be answered
 abbrev pub numbers : Call → List ℕ
@@ -32,6 +32,7 @@ pub record First-that-applies (ts : List (Bool × Refusal)) (x : Refusal) : Type
 
 pub record Refusal-laws : Type 0 where
   -- the reasons stand in the order of their numbers
+  pub rising-new : (robustness limit : ℕ) → map (λ (t : Bool × Refusal). refusal-number (t .1)) (new-refusals robustness limit) ≡ 1 ∷ 2 ∷ []
   pub rising : (r : Rule) (m : Model) (c : Call) → map (λ (t : Bool × Refusal). refusal-number (t .1)) (refusals r m c) ≡ numbers c
   -- the first that applies is answered
   pub refused : (r : Rule) (m : Model) (c : Call) (x : Refusal) → (answer r m c ≡ Some x) ↔ First-that-applies (refusals r m c) x

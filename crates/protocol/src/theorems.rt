@@ -3,6 +3,7 @@ ghost use Rattle.protocol.specs.Law.{Stands};
 ghost use Rattle.protocol.specs.CommitLaws.{Commit-laws};
 ghost use Rattle.protocol.specs.HistoryLaws.{History-laws};
 ghost use Rattle.protocol.specs.PairingLaws.{Pairing-laws};
+ghost use Rattle.protocol.specs.Reasons.{Reason-laws};
 ghost use Rattle.protocol.specs.RefusalLaws.{Refusal-laws};
 ghost use Rattle.protocol.specs.RelyingLaws.{Relying-laws};
 ghost use Rattle.protocol.specs.RingTest.{Ring-test};
@@ -29,6 +30,13 @@ pub fn sets_have_the_members_they_should() -> u8
 // Which number a call is answered.
 pub fn the_first_reason_that_applies_is_answered() -> u8
     ensures { λ _. ⌜ Refusal-laws ⌝ }
+{
+    0
+}
+
+// The reasons to refuse a call, in plain words.
+pub fn each_test_passes_exactly_when_its_reason_holds() -> u8
+    ensures { λ _. ⌜ Reason-laws ⌝ }
 {
     0
 }
