@@ -36,3 +36,6 @@ pub mod HistoryReads
 pub mod HistoryExact
 pub mod HistoryBook
 pub mod RelyingExact
+pub mod RefusalExact
+pub mod CommitExact
+pub mod ReasonsTell

@@ -31,7 +31,7 @@ same-in (suc w) a b h i f =
     let low : a % 2 ≡ b % 2 = same-digit (a % 2) (b % 2) (digit-of a) (digit-of b) (sym (has-first a) ∙ f 0 ∙ has-first b) in
     omega arith
 
-below-pow : (n w : ℕ) → n ≤ w → n < 2 ^ w
+pub below-pow : (n w : ℕ) → n ≤ w → n < 2 ^ w
 below-pow n zero h = omega arith
 below-pow zero (suc w) h = omega (arith, below-pow zero w (omega arith), pow-suc 2 w)
 below-pow (suc n) (suc w) h = omega (arith, below-pow n w (omega arith), pow-suc 2 w)
@@ -95,7 +95,7 @@ has-placed a k = elim (cases-lt k 16) [
 
 pub set-laws : Set-laws
 set-laws = record {
-  told = same-members;
+  same = same-members;
   none = has-zero;
   alone = has-single;
   joined = has-join;

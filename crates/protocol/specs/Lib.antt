@@ -21,8 +21,11 @@ pub mod Cases
 pub mod SetLaws
 pub mod WaitingLaws
 pub mod RingTest
+pub mod RefusalLaws
+pub mod Reasons
 pub mod PairingLaws
 pub mod SettlingLaws
+pub mod CommitLaws
 pub mod VersionOrder
 pub mod HistoryLaws
 pub mod RelyingLaws

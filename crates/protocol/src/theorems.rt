@@ -1,7 +1,10 @@
 // The theorems that the definitions stand under, each on the contract of a function named after what it says.
 ghost use Rattle.protocol.specs.Law.{Stands};
+ghost use Rattle.protocol.specs.CommitLaws.{Commit-laws};
 ghost use Rattle.protocol.specs.HistoryLaws.{History-laws};
 ghost use Rattle.protocol.specs.PairingLaws.{Pairing-laws};
+ghost use Rattle.protocol.specs.Reasons.{Reason-laws};
+ghost use Rattle.protocol.specs.RefusalLaws.{Refusal-laws};
 ghost use Rattle.protocol.specs.RelyingLaws.{Relying-laws};
 ghost use Rattle.protocol.specs.RingTest.{Ring-test};
 ghost use Rattle.protocol.specs.SetLaws.{Set-laws};
@@ -20,6 +23,20 @@ pub fn overlapping_jobs_leave_what_they_would_one_by_one() -> u8
 // Sets of places, told by their members.
 pub fn sets_have_the_members_they_should() -> u8
     ensures { λ _. ⌜ Set-laws ⌝ }
+{
+    0
+}
+
+// Which number a call is answered.
+pub fn the_first_reason_that_applies_is_answered() -> u8
+    ensures { λ _. ⌜ Refusal-laws ⌝ }
+{
+    0
+}
+
+// The reasons to refuse a call, in plain words.
+pub fn each_test_passes_exactly_when_its_reason_holds() -> u8
+    ensures { λ _. ⌜ Reason-laws ⌝ }
 {
     0
 }
@@ -48,6 +65,13 @@ pub fn a_lock_keeps_exactly_the_pairs_that_agree() -> u8
 // What a commit and an abort leave.
 pub fn an_end_drops_exactly_what_took_the_other_ending() -> u8
     ensures { λ _. ⌜ Settling-laws ⌝ }
+{
+    0
+}
+
+// What a job has when it commits, and what is then in the store.
+pub fn a_commit_writes_the_one_version_of_each_turned_object() -> u8
+    ensures { λ _. ⌜ Commit-laws ⌝ }
 {
     0
 }
