@@ -1,5 +1,5 @@
 -- What holds of a book and is kept by each accepted call holds after every list of calls; so the invariant does.
-use mathlib.Core.Path.{_≡_, refl}
+use mathlib.Core.Path.{_≡_, refl, ap}
 use mathlib.Core.List.{List, [], _∷_}
 use Prim.Native.Nat.{ℕ}
 use Rattle.std.specs.declared.option.Option.{Option}
@@ -9,7 +9,7 @@ use Rattle.terms.specs.Rule.{Rule}
 use Rattle.protocol.specs.declared.refusals.Refusal.{Refusal}
 use Rattle.protocol.specs.History.{History, history-one, history, blank}
 use Rattle.protocol.specs.Model.{Model, new}
-use Rattle.protocol.specs.Past.{past}
+use Rattle.protocol.specs.Past.{Event, past}
 use Rattle.protocol.specs.PlainRun.{Plain, plain-one}
 use Rattle.protocol.specs.Step.{answer, next, step, run}
 use Rattle.protocol.proofs.Invariant.{Invariant, invariant-new, invariant-next}
@@ -25,6 +25,11 @@ always r P f m h (c ∷ cs) i = go (answer r m c) refl (λ m h. always r P f m h
         (elim a as (λ _. History) [ None ↦ history (history-one h c) (past r (elim a [ None ↦ next r m c | Some x ↦ m ]) cs) | Some x ↦ history h (past r (elim a [ None ↦ next r m c | Some x ↦ m ]) cs) ])
     go None e rec = rec (next r m c) (history-one h c) (f m h c e i)
     go (Some x) e rec = rec m h i
+
+-- what an accepted call leaves
+pub accepted-step : (r : Rule) (m : Model) (c : Call) → answer r m c ≡ None → step r m c ≡ next r m c
+unfolding step
+accepted-step r m c e = ap (λ a. elim a as (λ _. Model) [ None ↦ next r m c | Some x ↦ m ]) e
 
 -- the invariant of the law, as a fact of the book alone
 abbrev pub Lawful : Rule → Model → Type 0

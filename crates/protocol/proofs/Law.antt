@@ -62,7 +62,7 @@ set-runs js p q j l = elim (cases-eq q p) [
   | inr n ↦ ap is-some (getD-set-other js p q j None n) ∙ sym (cond-false (eqb q p) _ _ (ne-eqb q p n))
 ]
 
-law-new : (r : Rule) (x l : ℕ) (first : List ℕ) → LawInvariant r (new x l first) (record { values = first; pending = [] }) blank
+pub law-new : (r : Rule) (x l : ℕ) (first : List ℕ) → LawInvariant r (new x l first) (record { values = first; pending = [] }) blank
 unfolding new has-ended
 law-new r x l first = record {
   invariant = invariant-new r x l first;
@@ -142,7 +142,7 @@ law-next r m s h (Abort p) e i =
     }
 
 -- and so does every list of calls
-law-run : (r : Rule) (m : Model) (s : Plain) (h : History) (cs : List Call) → LawInvariant r m s h → LawInvariant r (run r m cs) (plain r s (past r m cs)) (history h (past r m cs))
+pub law-run : (r : Rule) (m : Model) (s : Plain) (h : History) (cs : List Call) → LawInvariant r m s h → LawInvariant r (run r m cs) (plain r s (past r m cs)) (history h (past r m cs))
 unfolding run past plain history step
 law-run r m s h [] i = i
 law-run r m s h (c ∷ cs) i = go (answer r m c) refl (λ m s h. law-run r m s h cs)

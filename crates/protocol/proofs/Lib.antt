@@ -31,3 +31,15 @@ pub mod Law
 pub mod SetLaws
 pub mod RingTest
 pub mod Always
+pub mod WaitingExact
+pub mod SettlingExact
+pub mod ListOrder
+pub mod PairingExact
+pub mod MakersOrder
+pub mod HistoryReads
+pub mod HistoryExact
+pub mod HistoryBook
+pub mod RelyingExact
+pub mod RefusalExact
+pub mod CommitExact
+pub mod ReasonsTell

@@ -61,7 +61,7 @@ ones-kept (suc d) a = go (a % 2) (digit-of a) (has a 0) (has-first a) (ones-kept
     go x d1 true e rec = omega (arith, rec)
     go x d1 false e rec = absurd (false≢true e)
 
-size-counts : (a : ℕ) → size a ≡ length (keep (has a) places)
+pub size-counts : (a : ℕ) → size a ≡ length (keep (has a) places)
 unfolding size range
 size-counts a = ones-kept 16 a
 
@@ -90,7 +90,7 @@ has-placed a k = elim (cases-lt k 16) [
 
 pub set-laws : Set-laws
 set-laws = record {
-  told = same-members;
+  same = same-members;
   none = has-zero;
   alone = has-single;
   joined = has-join;

@@ -19,4 +19,13 @@ pub mod History
 pub mod Law
 pub mod Cases
 pub mod SetLaws
+pub mod WaitingLaws
 pub mod RingTest
+pub mod RefusalLaws
+pub mod Reasons
+pub mod PairingLaws
+pub mod SettlingLaws
+pub mod CommitLaws
+pub mod VersionOrder
+pub mod HistoryLaws
+pub mod RelyingLaws

@@ -23,7 +23,7 @@ Apart a b = (k : ℕ) → has a k ≡ true → has b k ≡ true → ⊥
 
 pub record Set-laws : Type 0 where
   -- sets with the same members are the same
-  pub told : (a b : ℕ) → ((k : ℕ) → has a k ≡ has b k) → a ≡ b
+  pub same : (a b : ℕ) → ((k : ℕ) → has a k ≡ has b k) → a ≡ b
   -- nothing is in the empty set
   pub none : (k : ℕ) → has 0 k ≡ false
   -- of the set of one place, that place is the only member

@@ -1,0 +1,3 @@
+pub mod Placed
+pub mod Sets
+pub mod Imaging

@@ -1,0 +1,9 @@
+pub mod Calls
+pub mod Faults
+pub mod Laws
+pub mod Letters
+pub mod Lines
+pub mod Outputs
+pub mod Scripts
+pub mod Setups
+pub mod Writing

@@ -1,0 +1,3 @@
+pub mod Answered
+pub mod Tables
+pub mod Images

@@ -1,0 +1,4 @@
+pub mod Empty
+pub mod Ended
+pub mod Items
+pub mod Within
