@@ -19,9 +19,9 @@ use Rattle.protocol.specs.Model.{Model, job-at}
 use Rattle.protocol.specs.Places.{has}
 use Rattle.protocol.specs.Ranks.{Acyclic, Ringless}
 use Rattle.protocol.specs.Waiting.{Waits-for}
-use Rattle.protocol.proofs.Acyclic.{free}
-use Rattle.protocol.proofs.Sets.{none-in}
-use Rattle.protocol.proofs.Waits.{why-waits}
+use Rattle.protocol.proofs.Ranks.{free}
+use Rattle.protocol.proofs.Membership.{none-in}
+use Rattle.protocol.proofs.Waiting.{why-waits}
 use Rattle.tables.specs.Within.{Within, count, room, job-of-holding}
 use Rattle.tables.proofs.Counts.{count-named, count-cons}
 use Rattle.book.specs.Ready.{is-free, Ready}

@@ -19,7 +19,7 @@ use Rattle.protocol.specs.Lists.{first}
 use Rattle.protocol.specs.Model.{Model, new}
 use Rattle.protocol.specs.Ranks.{Acyclic, Ringless}
 use Rattle.protocol.specs.Step.{new-refusals}
-use Rattle.protocol.proofs.Acyclic.{acyclic-none}
+use Rattle.protocol.proofs.Ranks.{acyclic-none}
 use Rattle.tables.specs.Within.{Within}
 
 pub new-accepted : (robustness limit : ℕ) → robustness ≤ 120 → limit ≢ 0 → limit ≤ 16 → first (new-refusals robustness limit) ≡ None

@@ -7,7 +7,7 @@ use native.Mathlib.Omega.{arith}
 use Rattle.protocol.specs.declared.holdings.Holding.{Holding}
 use Rattle.protocol.specs.Holdings.{jobs-of, makers, later-makers, holds, waits, new-waits, reach, would-ring}
 use Rattle.protocol.specs.Places.{has, single, join, placed}
-use Rattle.protocol.proofs.PlaceLaws.{placed-same, single-below}
+use Rattle.protocol.proofs.SetDigits.{placed-same, single-below}
 use Rattle.holders.specs.Placed.{Placed}
 use Rattle.holders.specs.Sets.{blocks}
 use Rattle.holders.proofs.Joins.{join-below, placed-zero, has-placed}

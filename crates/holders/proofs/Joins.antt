@@ -8,7 +8,7 @@ use lib.Bits.{bitOr, or-step, or-zero-l, or-zero-r, or-comm, or-self, or-mod, or
 use lib.Dec.{eqb}
 use lib.Pow.{mod-pow-add}
 use Rattle.protocol.specs.Places.{has, join, placed}
-use Rattle.protocol.proofs.PlaceLaws.{has-first, has-suc}
+use Rattle.protocol.proofs.SetDigits.{has-first, has-suc}
 
 -- ---- joins
 or-low : (a b : ℕ) → bitOr a b % 2 ≡ max (a % 2) (b % 2)

@@ -29,7 +29,7 @@ use Rattle.protocol.specs.Waiting.{Waits-for, Waits-through}
 use Rattle.protocol.proofs.Lists.{any-in, in-any}
 use Rattle.protocol.proofs.SetDigits.{Digit, d0, d1, digit-of, has-suc, has-first}
 use Rattle.protocol.proofs.RingTest.{exact, kept}
-use Rattle.protocol.proofs.SetLaws.{below-pow}
+use Rattle.protocol.proofs.SetSizes.{below-pow}
 use Rattle.protocol.proofs.Membership.{none-in}
 use Rattle.protocol.proofs.Waiting.{waits-why, why-waits}
 

@@ -86,11 +86,11 @@ module _ (hs : List Holding) (h : Holding) (small : Of-places hs) where
   unfolding reaches
   finds none t = elim (all (h .job) (h .job) t) [ inl u ↦ absurd (none (h .job) u) | inr i ↦ i ]
 
-exact : (hs : List Holding) (h : Holding) → Of-places hs → No-ring hs → (would-ring hs h ≡ true) ↔ Waits-through (hs ++ h ∷ []) (h .job) (h .job)
+pub exact : (hs : List Holding) (h : Holding) → Of-places hs → No-ring hs → (would-ring hs h ≡ true) ↔ Waits-through (hs ++ h ∷ []) (h .job) (h .job)
 exact hs h small none = (found hs h, finds hs h small none)
 
 -- ---- after every list of calls
-kept : (r : Rule) (robustness limit : ℕ) (first : List ℕ) (cs : List Call) → Of-places (run r (new robustness limit first) cs .holdings) × No-ring (run r (new robustness limit first) cs .holdings)
+pub kept : (r : Rule) (robustness limit : ℕ) (first : List ℕ) (cs : List Call) → Of-places (run r (new robustness limit first) cs .holdings) × No-ring (run r (new robustness limit first) cs .holdings)
 kept r robustness limit first cs =
     let m = run r (new robustness limit first) cs in
     let i = lawful r robustness limit first cs in

@@ -4,7 +4,7 @@ use native.Mathlib.Omega.{arith}
 use Rattle.protocol.specs.declared.assumptions.Version.{Version}
 use Rattle.protocol.specs.Assumptions.{commits-of, assume, aborts-of}
 use Rattle.protocol.specs.Places.{join, single}
-use Rattle.protocol.proofs.PlaceLaws.{placed-same, single-below}
+use Rattle.protocol.proofs.SetDigits.{placed-same, single-below}
 use Rattle.book.proofs.making.version_of.Needs as need
 
 pub returns : need.returns
