@@ -53,22 +53,6 @@ pub fn count_held(holdings: &[Holding], place: u8) -> usize
     count_passing(holdings, &HeldBy { place })
 }
 
-// The n-th holding of a job, from 0; none where it has no more.
-pub fn nth_held(holdings: &[Holding], place: u8, n: u64) -> Option<Holding>
-    ensures { λ r. ⌜ r ≡ nth (keep (held-by place) (now (holdings .entry))) n ⌝ }
-{
-    let mut left = n;
-    for holding in holdings {
-        if holding.job == place {
-            if left == 0 {
-                return Some(*holding);
-            }
-            left -= 1;
-        }
-    }
-    None
-}
-
 // Where the object stands among those that a job holds; how many these are, where it is none of them.
 pub fn position(holdings: &[Holding], place: u8, object: u64) -> usize
     ensures { λ r. ⌜ r ≡ position-of place object (now (holdings .entry)) ⌝ }

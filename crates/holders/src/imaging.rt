@@ -66,22 +66,3 @@ pub fn find_open(holdings: &[Holding], place: u8, object: u64) -> Result<(), Ref
         Err(Refusal::NotOpen)
     }
 }
-
-// The holding after an image call: turned, or as it was where the call is refused.
-pub fn turned_or_same(holding: Holding, place: u8, object: u64) -> Holding
-    ensures { λ r. ⌜ r ≡ turn place object holding ⌝ }
-{
-    match imaged(holding, image_call(place, object)) {
-        Ok(turned) => turned,
-        Err(_) => holding,
-    }
-}
-
-// Turns the job's open holding of the object, and leaves every other as it is.
-pub fn turn_open(holdings: &mut [Holding], place: u8, object: u64)
-    ensures { λ _. ⌜ now (holdings .exit) ≡ map (turn place object) (now (holdings .entry)) ⌝ }
-{
-    for holding in holdings.iter_mut() {
-        *holding = turned_or_same(*holding, place, object);
-    }
-}
