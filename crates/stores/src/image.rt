@@ -39,14 +39,15 @@ fn word(bytes: &[u8], place: usize) -> u64
 impl ImageStore {
     // A store over these bytes.
     pub fn new(bytes: Vec<u8>) -> ImageStore
-        ensures { λ r. ⌜ r .image ≡ bytes ⌝ }
+        ensures whole { λ r. ⌜ r .image ≡ bytes ⌝ }
+        ensures holds { λ r. ⌜ image-values (vec-items (r .image)) ≡ image-values (vec-items bytes) ⌝ }
     {
         ImageStore { image: bytes }
     }
 
     // A store over the bytes of so many objects, all at 0.
     pub fn zeroed(heap: Global, count: u32) -> Result<ImageStore, AllocError>
-        ensures bytes { λ r. ⌜ made r (λ s. vec-items (s .image) ≡ replicate (count * 8) 0) ⌝ }
+        ensures whole { λ r. ⌜ made r (λ s. vec-items (s .image) ≡ replicate (count * 8) 0) ⌝ }
         ensures holds { λ r. ⌜ made r (λ s. image-values (vec-items (s .image)) ≡ replicate (min 65536 count) 0) ⌝ }
     {
         let image = vec![in heap; 0; count as usize * BYTES]?;

@@ -20,14 +20,15 @@ pub struct TableStore {
 impl TableStore {
     // A store over these numbers.
     pub fn new(table: Vec<u64>) -> TableStore
-        ensures { λ r. ⌜ r .numbers ≡ table ⌝ }
+        ensures whole { λ r. ⌜ r .numbers ≡ table ⌝ }
+        ensures holds { λ r. ⌜ table-values (vec-items (r .numbers)) ≡ table-values (vec-items table) ⌝ }
     {
         TableStore { numbers: table }
     }
 
     // A store over so many numbers, all at 0.
     pub fn zeroed(heap: Global, count: u32) -> Result<TableStore, AllocError>
-        ensures table { λ r. ⌜ made r (λ s. vec-items (s .numbers) ≡ replicate count 0) ⌝ }
+        ensures whole { λ r. ⌜ made r (λ s. vec-items (s .numbers) ≡ replicate count 0) ⌝ }
         ensures holds { λ r. ⌜ made r (λ s. table-values (vec-items (s .numbers)) ≡ replicate (min 65536 count) 0) ⌝ }
     {
         let numbers = vec![in heap; 0; count as usize]?;

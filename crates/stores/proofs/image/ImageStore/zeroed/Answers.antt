@@ -6,4 +6,4 @@ use Rattle.stores.proofs.image.ImageStore.zeroed.Needs as need
 pub returns : need.returns
 returns c =
     let zeros = c .in-Continue-image .ensures tt .exact (λ y e. e) in
-    record { bytes = zeros; holds = ap image-values zeros ∙ image-zeros (c .args .count) }
+    record { whole = zeros; holds = ap image-values zeros ∙ image-zeros (c .args .count) }

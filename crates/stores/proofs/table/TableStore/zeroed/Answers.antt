@@ -6,4 +6,4 @@ use Rattle.stores.proofs.table.TableStore.zeroed.Needs as need
 pub returns : need.returns
 returns c =
     let zeros = c .in-Continue-numbers .ensures tt .exact (λ y e. e) in
-    record { table = zeros; holds = ap table-values zeros ∙ table-zeros (c .args .count) }
+    record { whole = zeros; holds = ap table-values zeros ∙ table-zeros (c .args .count) }
