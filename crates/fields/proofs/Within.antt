@@ -1,6 +1,6 @@
 -- Where the lines and fields stand in their script.
 use mathlib.Core.Path.{_≡_, refl, sym, ap, _∙_}
-use mathlib.Core.Bool.{Bool, cond, true, false, _&&_}
+use mathlib.Core.Bool.{Bool, cond, true, false}
 use mathlib.Core.List.{List, [], _∷_, _++_, map}
 use Prim.Native.Nat.{ℕ, _+_, _-_, _≤_, _<_}
 use native.Mathlib.Omega.{arith}
@@ -8,12 +8,11 @@ use lib.Dec.{eqb, ltb}
 use lib.ListN.{length, getD, take, drop, length-append}
 use Rattle.std.specs.Pieces.{rejoined, Lacks}
 use Rattle.std.specs.shelf.Lists.{All}
-use Rattle.std.proofs.shelf.Elements.{all-map}
 use Rattle.std.proofs.shelf.Lists.{append-assoc, append-nil, take-at, drop-at, take-more, take-all}
 use Rattle.std.proofs.shelf.Tests.{and-parts, ltb-true, eqb-true}
 use Rattle.fields.specs.Cut.{pieces}
 use Rattle.fields.specs.Laws.{texts, last-mark, Lines-join-to-the-script, Fields-join-to-their-lines, Stands, Fields-stand-in-the-script}
-use Rattle.fields.specs.Places.{Word, end-of, placed, words, fed, body, lines-of, rows-of}
+use Rattle.fields.specs.Places.{Word, end-of, placed, words, fed, body, lines-of}
 use Rattle.fields.proofs.Joins.{whole, lacks, lacks-pieces}
 
 -- s is some bytes as long as the place of w, then w, then the others

@@ -1,23 +1,20 @@
 -- The numbers of a script are those that `decimal` writes.
 use mathlib.Core.Path.{_≡_, refl, sym, ap, _∙_}
-use mathlib.Core.Bool.{Bool, cond, true, false}
+use mathlib.Core.Bool.{cond, true}
 use mathlib.Core.List.{List, [], _∷_}
 use mathlib.Core.Logic.{⊎-elim}
 use Prim.Native.Nat.{ℕ, _+_, _-_, _*_, _^_, _≤_, _<_}
 use native.Mathlib.Omega.{arith}
-use lib.Dec.{eqb, leb}
 use lib.ListN.{length, getD}
 use borrow.Author.Needs.{needs}
-use Rattle.std.specs.Text.{asciiDigit}
 use Rattle.std.specs.Written.{decimal}
 use Rattle.std.specs.shelf.Text.{allDigits}
-use Rattle.std.specs.declared.option.Option.{Option}
 use Rattle.std.specs.declared.option.Option.the-variants.{Some, None}
 use Rattle.std.proofs.shelf.Numerals.{Numerals, numerals-by-fold, value-short}
 use Rattle.std.proofs.shelf.Decimals.{decimal-value, decimal-digit, digits-decimal, value-decimal, length-decimal-le, decimal-some, first-decimal}
 use Rattle.std.proofs.shelf.Tests.{cases-lt, cases-eq}
 use Rattle.std.proofs.shelf.Ways.{tells}
-use Rattle.fields.specs.Number.{number-in, read-on, only-zero, digit, Numbers-are-decimals}
+use Rattle.fields.specs.Number.{number-in, read-on, only-zero, Numbers-are-decimals}
 
 abbrev valueOn : ℕ → List ℕ → ℕ
 valueOn n [] = n

@@ -1,17 +1,15 @@
 -- From fields to the bytes that they hold, and from lines to what they ask for.
 use mathlib.Core.Path.{_≡_, refl, sym, ap, _∙_}
 use mathlib.Core.Bool.{Bool, cond, true, false}
-use mathlib.Core.List.{List, [], _∷_, map}
+use mathlib.Core.List.{List, [], _∷_}
 use Prim.Native.Nat.{ℕ, zero, suc}
 use native.Mathlib.Omega.{arith}
-use lib.Dec.{eqb}
-use lib.ListN.{length, getD, length-map}
+use lib.ListN.{length, length-map}
 use Rattle.std.specs.declared.option.Option.{Option}
 use Rattle.std.specs.declared.option.Option.the-variants.{Some, None}
 use Rattle.std.specs.declared.result.Result.{Result}
-use Rattle.std.specs.declared.result.Result.the-variants.{Ok, Err}
 use Rattle.fields.specs.declared.parts.Field.{Field}
-use Rattle.script.specs.Calls.{nth, having, call-by, call-of}
+use Rattle.script.specs.Calls.{nth, call-by, call-of}
 use Rattle.script.specs.Faults.{then}
 use Rattle.script.specs.Letters.{letter-in}
 use Rattle.script.specs.Lines.{text-of, texts, field, first-by, first-line, later-by, later-line, call-asked, setup-asked}

@@ -10,7 +10,7 @@ use Rattle.std.specs.Written.{decimal}
 use Rattle.std.specs.declared.option.Option.{Option}
 use Rattle.std.specs.declared.option.Option.the-variants.{Some, None}
 use Rattle.std.specs.declared.result.Result.{Result}
-use Rattle.std.specs.declared.result.Result.the-variants.{Ok, Err}
+use Rattle.std.specs.declared.result.Result.the-variants.{Ok}
 use Rattle.std.specs.shelf.Lists.{All}
 use Rattle.fields.specs.Cut.{pieces}
 use Rattle.fields.proofs.Joins.{whole, unique}
@@ -24,7 +24,6 @@ use Rattle.script.specs.Laws.{Short-call, Written-calls-read-back}
 use Rattle.script.specs.Letters.{letter-in, mode-in, value-in}
 use Rattle.script.specs.Writing.{call-bytes}
 use Rattle.script.specs.declared.faults.Fault.{Fault}
-use Rattle.script.specs.declared.faults.Fault.the-variants.{Letter}
 use Rattle.script.proofs.Parses.{decimal-lacks, letter-lacks, read-value, value-ok, then-ok, having-ok, way, row, lettered, ok-same, either-ok}
 
 abbrev mode-letter : Mode → ℕ

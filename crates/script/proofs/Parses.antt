@@ -1,13 +1,12 @@
 -- What an accepted field is, and how a written field is read.
 use mathlib.Core.Path.{_≡_, refl, sym, ap, _∙_}
-use mathlib.Core.Bool.{Bool, cond, true, false, _&&_}
+use mathlib.Core.Bool.{Bool, cond, true, false}
 use mathlib.Core.List.{List, [], _∷_}
 use mathlib.Core.Logic.{_⊎_, inl, inr, ⊎-elim}
-use Prim.Native.Nat.{ℕ, zero, suc, _+_, _^_, _≤_, _<_}
+use Prim.Native.Nat.{ℕ, zero, suc, _+_, _^_, _<_}
 use native.Mathlib.Numerals.{add-one}
 use native.Mathlib.Omega.{arith}
-use borrow.Author.Needs.{needs}
-use lib.Dec.{eqb, leb}
+use lib.Dec.{eqb}
 use lib.ListN.{length, getD, drop}
 use Rattle.std.specs.Options.{okOr}
 use Rattle.std.specs.Pieces.{Lacks}
@@ -26,7 +25,7 @@ use Rattle.fields.specs.Number.{number-in}
 use Rattle.fields.proofs.Written.{own, numbers-are-decimals}
 use Rattle.script.specs.Calls.{having}
 use Rattle.script.specs.Faults.{then}
-use Rattle.script.specs.Letters.{letter-in, either, value-in, objects-in}
+use Rattle.script.specs.Letters.{letter-in, either, value-in}
 use Rattle.script.specs.declared.faults.Fault.{Fault}
 use Rattle.script.specs.declared.faults.Fault.the-variants.{Count, Form}
 

@@ -3,7 +3,7 @@ use mathlib.Core.Path.{_≡_, refl, sym, ap, subst, _∙_}
 use mathlib.Core.Bool.{Bool, cond, true, false}
 use mathlib.Core.List.{List, [], _∷_}
 use mathlib.Core.Logic.{_⊎_, ⊎-elim}
-use Prim.Native.Nat.{ℕ, _^_, _≤_, _<_}
+use Prim.Native.Nat.{ℕ, _^_, _≤_}
 use native.Mathlib.Omega.{arith}
 use lib.Dec.{leb}
 use lib.ListN.{length}
@@ -11,26 +11,24 @@ use Rattle.std.specs.Pieces.{rejoined, Lacks}
 use Rattle.std.specs.Written.{decimal}
 use Rattle.std.specs.declared.option.Option.{Option}
 use Rattle.std.specs.declared.option.Option.the-variants.{Some, None}
-use Rattle.std.specs.declared.result.Result.{Result}
 use Rattle.std.specs.declared.result.Result.the-variants.{Ok, Err}
 use Rattle.std.specs.shelf.Lists.{All}
 use Rattle.std.proofs.shelf.Tests.{leb-true, le-leb}
 use Rattle.fields.specs.Cut.{pieces}
 use Rattle.fields.proofs.Joins.{whole, unique}
-use Rattle.script.specs.Calls.{nth, having}
+use Rattle.script.specs.Calls.{nth}
 use Rattle.script.specs.Faults.{then}
 use Rattle.script.specs.Laws.{Short-setup, Written-setups-read-back}
 use Rattle.script.specs.Letters.{letter-in, rule-in, store-in, value-in, objects-in}
 use Rattle.script.specs.Setups.{setup-with, setup-by, setup-of, setup-in}
 use Rattle.script.specs.Writing.{rule-bytes, store-bytes, setup-bytes}
-use Rattle.script.specs.declared.faults.Fault.{Fault}
-use Rattle.script.specs.declared.faults.Fault.the-variants.{Letter, Form}
+use Rattle.script.specs.declared.faults.Fault.the-variants.{Form}
 use Rattle.script.specs.declared.setups.RuleName.{RuleName}
 use Rattle.script.specs.declared.setups.RuleName.the-variants.{Charge, Loan}
 use Rattle.script.specs.declared.setups.Setup.{Setup}
 use Rattle.script.specs.declared.setups.StoreName.{StoreName}
 use Rattle.script.specs.declared.setups.StoreName.the-variants.{Table, Image}
-use Rattle.script.proofs.Parses.{decimal-lacks, letter-lacks, read-value, value-ok, then-ok, having-ok, way, row, lettered, ok-same, either-ok}
+use Rattle.script.proofs.Parses.{decimal-lacks, letter-lacks, read-value, value-ok, then-ok, having-ok, way, lettered, ok-same, either-ok}
 
 -- the fields of a setup's line
 abbrev parts : Setup → List (List ℕ)

@@ -5,7 +5,6 @@ use lib.Chars.{codes}
 use Rattle.std.specs.Written.{decimal}
 use Rattle.terms.specs.declared.calls.Call.{Call}
 use Rattle.terms.specs.declared.calls.Call.the-variants.{Begin, Lock, Image, Commit, Abort}
-use Rattle.terms.specs.declared.modes.Mode.{Mode}
 use Rattle.terms.specs.declared.modes.Mode.the-variants.{Read, Write}
 use Rattle.script.specs.declared.setups.RuleName.{RuleName}
 use Rattle.script.specs.declared.setups.RuleName.the-variants.{Charge, Loan}
