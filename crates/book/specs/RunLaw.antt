@@ -35,10 +35,10 @@ Run-law r robustness first calls values done =
     × Law r robustness first es values (counts (view values (done .book)))
     × Names-ready (history-of es .runs) (history-of es .holdings) (done .ready)
 
--- answers, book and values are those that the rules give
+-- robustness and limit were accepted; answers, book and values are those that the rules give
 abbrev pub Run-follows : Rule → ℕ → ℕ → List ℕ → List Call → List ℕ → Run → Type 0
 Run-follows r robustness limit first calls values done =
-    (view values (done .book) ≡ run r (new robustness limit first) calls) × (vec-items (done .answers) ≡ answers-of r (new robustness limit first) calls)
+    (first-of (new-refusals robustness limit) ≡ None) × (view values (done .book) ≡ run r (new robustness limit first) calls) × (vec-items (done .answers) ≡ answers-of r (new robustness limit first) calls)
 
 -- why there was no run: the robustness or the limit was refused, or there was no memory for the answers
 abbrev pub Not-run : ℕ → ℕ → RunError → Type 0

@@ -21,4 +21,4 @@ returns g c =
     let s : start ≡ new x l first = c .in-Ok .ensures tt .1 first in
     let is : m ≡ run r (new x l first) cs = c .carry-out .ensures .left ∙ ap (λ s. run r s cs) s in
     let tells : given ≡ answers-of r (new x l first) cs = c .carry-out .ensures .told ∙ ap (λ l. l ++ answers-of r start cs) (c .in-Ok-with-capacity .ensures tt .made .0) ∙ ap (λ s. answers-of r s cs) s in
-    record { law = lawful-run r x l first cs m given (c .ready-ready .result) is tells (c .ready-ready .ensures); model = (is, tells) }
+    record { law = lawful-run r x l first cs m given (c .ready-ready .result) is tells (c .ready-ready .ensures); model = (c .in-Ok .ensures tt .0, is, tells) }
