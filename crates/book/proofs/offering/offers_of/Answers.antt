@@ -10,7 +10,7 @@ use Rattle.book.specs.Blanks.{no_version}
 use Rattle.book.proofs.Adding.{keep_cons, adding_more, adding_all, with_room}
 use Rattle.book.proofs.Pairs.{keep_yes, keep_no}
 use Rattle.book.proofs.offering.offers_of.Goals as goal
-use Rattle.book.proofs.offering.offers_of.Goals.{then_version_object, else_version_object}
+use Rattle.book.proofs.offering.offers_of.Goals.{then-version-object, else-version-object}
 
 -- the table with the first offer
 pub loop-version-init : goal.loop-version-init
@@ -32,13 +32,13 @@ loop-version-preserved c =
     let more : (v : Version) (vs : List Version) → F (v ∷ vs) ≡ F (v ∷ []) ++ F vs = λ v vs. ap (map f) (keep_cons t v vs) ∙ map-append f (keep t (v ∷ [])) (keep t vs) in
     let step = adding_more F (λ v. F (v ∷ [])) refl more (items c.push.new.self) now vs i c.loop-version.invariant.1 no_version c.loop-version-test.true in
     elim c.if-version-object.branch [
-      | then_version_object w ↦
+      | then-version-object w ↦
           let x : items w.push-then-version-object.new.self ≡ now ++ f v ∷ [] =
           with_room 257 now (w.version-offer.result ∷ []) (items w.push-then-version-object.new.self) w.push-then-version-object.result w.push-then-version-object.ensures.added (omega (arith, c.requires.1, c.loop-version.invariant.0, c.loop-version-test.true))
           ∙ ap (λ y. now ++ y ∷ []) w.version-offer.ensures in
           let y : F (v ∷ []) ≡ f v ∷ [] = ap (map f) (keep_yes t v (eq-eqb v.object o w.if-version-object.true)) in
           rw w.all-is (omega (arith, c.loop-version.invariant.0, ap length x, length_push now (f v)), step (items w.push-then-version-object.new.self) (x ∙ ap (λ l. now ++ l) (sym y)))
-      | else_version_object w ↦
+      | else-version-object w ↦
           let y : F (v ∷ []) ≡ [] = ap (map f) (keep_no t v (ne_eqb v.object o w.if-version-object.false)) in
           rw w.all-is (omega (arith, c.loop-version.invariant.0), step now (sym (ap (λ l. now ++ l) y ∙ append-nil now)))
     ]

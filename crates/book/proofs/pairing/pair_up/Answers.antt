@@ -11,7 +11,7 @@ use Rattle.book.specs.Blanks.{no_execution}
 use Rattle.book.proofs.Adding.{adding_more, adding_over, adding_all}
 use Rattle.book.proofs.Pairs.{pairs_none, pairs_more, pairs_mine, pairs_other}
 use Rattle.book.proofs.pairing.pair_up.Goals as goal
-use Rattle.book.proofs.pairing.pair_up.Goals.{then_execution_request+in_ok_add_offers, else_execution_request}
+use Rattle.book.proofs.pairing.pair_up.Goals.{then-execution-request+in-ok-add-offers, else-execution-request}
 
 pub loop-execution-preserved : goal.loop-execution-preserved
 loop-execution-preserved g c =
@@ -27,9 +27,9 @@ loop-execution-preserved g c =
     let step : (after : List Execution) → after ≡ now ++ F (e ∷ []) → _ =
     adding_more F (λ e. F (e ∷ [])) (pairs_none r f xs p) (pairs_more r f xs p) (items c.args.found.now) now es i c.loop-execution.invariant.1 no_execution c.loop-execution-test.true in
     elim c.if-execution-request.branch [
-      | then_execution_request+in_ok_add_offers w ↦
+      | then-execution-request+in-ok-add-offers w ↦
           rw w.found-is (w.in-ok-add-offers.ensures.1, step (items w.add-offers.new.found) (w.in-ok-add-offers.ensures.0 ∙ ap (λ l. now ++ l) (pairs_mine r f xs p e w.if-execution-request.true)))
-      | else_execution_request w ↦
+      | else-execution-request w ↦
           rw w.found-is (c.loop-execution.invariant.0, step now (sym (ap (λ l. now ++ l) (pairs_other r f xs p e w.if-execution-request.false) ∙ append-nil now)))
     ]
 

@@ -2,7 +2,7 @@ use Rattle.std.proofs.Common.{◌≡◌, Bool, eqb, length, sym, ap, ◌∙◌, 
 use Rattle.std.proofs.lemmas.Bool.{eq-eqb, ne_eqb}
 use Rattle.book.proofs.Searched.{keep_here, keep_later, keep_end}
 use Rattle.book.proofs.searching.count_of.Goals as goal
-use Rattle.book.proofs.searching.count_of.Goals.{then_job_place, else_job_place}
+use Rattle.book.proofs.searching.count_of.Goals.{then-job-place, else-job-place}
 
 pub loop-record-init : goal.loop-record-init
 loop-record-init g c = (omega arith, omega arith)
@@ -18,9 +18,9 @@ loop-record-preserved g c =
     let x = c.record-item.result in
     let inv = c.loop-record.invariant in
     elim c.if-job-place.branch [
-      | then_job_place w ↦
+      | then-job-place w ↦
           rw w.count-is (omega arith, omega (arith, inv.1, ap length (keep_here t xs i x c.loop-record-test.true c.record-item.is (eq-eqb _ _ (sym c.job.ensures ∙ w.if-job-place.true)))))
-      | else_job_place w ↦
+      | else-job-place w ↦
           rw w.count-is (omega arith, omega (arith, inv.1, ap length (keep_later t xs i x c.loop-record-test.true c.record-item.is (ne_eqb _ _ (λ e. w.if-job-place.false (c.job.ensures ∙ e))))))
     ]
 

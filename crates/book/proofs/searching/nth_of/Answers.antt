@@ -4,7 +4,7 @@ use Rattle.protocol.specs.Lists.{keep}
 use Rattle.std.specs.List.{slice_get}
 use Rattle.book.proofs.Searched.{keep_here, keep_later, keep_end, nth_more}
 use Rattle.book.proofs.searching.nth_of.Goals as goal
-use Rattle.book.proofs.searching.nth_of.Goals.{then_job_place+else_left_eq0, else_job_place}
+use Rattle.book.proofs.searching.nth_of.Goals.{then-job-place+else-left-eq0, else-job-place}
 
 pub loop-record-init : goal.loop-record-init
 loop-record-init g c = refl
@@ -26,12 +26,12 @@ loop-record-preserved g c =
     let x = c.record-item.result in
     let left = c.loop-record.left in
     elim c.if-job-place.branch [
-      | then_job_place+else_left_eq0 w ↦
+      | then-job-place+else-left-eq0 w ↦
           rw w.left-is (
           sym (ap (λ l. slice_get l left) (keep_here t xs i x c.loop-record-test.true c.record-item.is (eq-eqb _ _ (sym c.job.ensures ∙ w.if-job-place.true)))
           ∙ nth_more x (keep t (drop (i + 1) xs)) left w.if-left-eq0.false) ∙ c.loop-record.invariant
           )
-      | else_job_place w ↦
+      | else-job-place w ↦
           rw w.left-is (
           sym (ap (λ l. slice_get l left) (keep_later t xs i x c.loop-record-test.true c.record-item.is (ne_eqb _ _ (λ e. w.if-job-place.false (c.job.ensures ∙ e))))) ∙ c.loop-record.invariant
           )

@@ -3,7 +3,7 @@ use Rattle.std.proofs.lemmas.List.{at_drop_all}
 use Rattle.protocol.specs.Ending.{written}
 use Rattle.book.proofs.Written.{written_none, written_here, written_later}
 use Rattle.book.proofs.writing.write_made.Goals as goal
-use Rattle.book.proofs.writing.write_made.Goals.{then_is_turned, else_is_turned}
+use Rattle.book.proofs.writing.write_made.Goals.{then-is-turned, else-is-turned}
 
 pub loop-holding-preserved : goal.loop-holding-preserved
 loop-holding-preserved g c =
@@ -13,9 +13,9 @@ loop-holding-preserved g c =
     let i = c.loop-holding.holding-index in
     let xs = g.S.Store.values c.loop-holding.store in
     elim c.if-is-turned.branch [
-      | then_is_turned w ↦
+      | then-is-turned w ↦
           rw w.store-is (sym (written_here p vs hs i c.loop-holding-test.true xs (sym c.is-turned.ensures ∙ w.if-is-turned.true) (g.S.Store.values w.write-one.new.store) w.write-one.ensures) ∙ c.loop-holding.invariant)
-      | else_is_turned w ↦
+      | else-is-turned w ↦
           rw w.store-is (sym (written_later p vs hs i c.loop-holding-test.true xs (sym c.is-turned.ensures ∙ w.if-is-turned.false)) ∙ c.loop-holding.invariant)
     ]
 

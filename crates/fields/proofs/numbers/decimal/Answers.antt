@@ -4,18 +4,18 @@ use Rattle.std.proofs.lemmas.Bool.Decides.{nat_tests}
 use Rattle.fields.specs.Number.{read_on, digit}
 use Rattle.fields.proofs.Digits.{bounded, short, step, stop}
 use Rattle.fields.proofs.numbers.decimal.Goals as goal
-use Rattle.fields.proofs.numbers.decimal.Goals.{then_byte_lt48_via_then_byte_lt48, then_byte_lt48_via_else_byte_lt48+then_byte_gt57}
+use Rattle.fields.proofs.numbers.decimal.Goals.{then-byte-lt48-via-then-byte-lt48, then-byte-lt48-via-else-byte-lt48+then-byte-gt57}
 
 pub returns-then-byte-lt48 : goal.returns-then-byte-lt48
 returns-then-byte-lt48 c =
-    let out : digit (get_or c.args.digits.now c.loop-byte.byte-index 0) ≡ false = elim c.then-byte-lt48.branch [ then_byte_lt48_via_then_byte_lt48 w ↦ grind (arith, nat_tests) | then_byte_lt48_via_else_byte_lt48+then_byte_gt57 w ↦ grind (arith, nat_tests) ] in
+    let out : digit (get_or c.args.digits.now c.loop-byte.byte-index 0) ≡ false = elim c.then-byte-lt48.branch [ then-byte-lt48-via-then-byte-lt48 w ↦ grind (arith, nat_tests) | then-byte-lt48-via-else-byte-lt48+then-byte-gt57 w ↦ grind (arith, nat_tests) ] in
     sym (stop c.loop-byte.value _ _ c.loop-byte-test.true out) ∙ c.loop-byte.invariant.1
 
-pub overflow-mul-value : goal.overflow-mul-value
-overflow-mul-value c = omega (arith, short c.loop-byte.value c.loop-byte.byte-index c.loop-byte.invariant.0 (omega arith))
+pub overflow_mul-value : goal.overflow_mul-value
+overflow_mul-value c = omega (arith, short c.loop-byte.value c.loop-byte.byte-index c.loop-byte.invariant.0 (omega arith))
 
-pub overflow-add-value : goal.overflow-add-value
-overflow-add-value c = omega (arith, short c.loop-byte.value c.loop-byte.byte-index c.loop-byte.invariant.0 (omega arith))
+pub overflow_add-value : goal.overflow_add-value
+overflow_add-value c = omega (arith, short c.loop-byte.value c.loop-byte.byte-index c.loop-byte.invariant.0 (omega arith))
 
 pub loop-byte-preserved : goal.loop-byte-preserved
 loop-byte-preserved c = (

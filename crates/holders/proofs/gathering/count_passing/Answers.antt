@@ -4,7 +4,7 @@ use Rattle.protocol.specs.Lists.{keep}
 use Rattle.holders.specs.Placed.{blank}
 use Rattle.holders.proofs.Passing.{keep_here, keep_later}
 use Rattle.holders.proofs.gathering.count_passing.Goals as goal
-use Rattle.holders.proofs.gathering.count_passing.Goals.{then_passes, else_passes}
+use Rattle.holders.proofs.gathering.count_passing.Goals.{then-passes, else-passes}
 
 pub loop-holding-preserved : goal.loop-holding-preserved
 loop-holding-preserved g c =
@@ -13,10 +13,10 @@ loop-holding-preserved g c =
     let i = c.loop-holding.holding-index in
     let l = c.loop-holding-test.true in
     elim c.if-passes.branch [
-      | then_passes w ↦
+      | then-passes w ↦
           let e : t (get_or hs i blank) ≡ true = cc in
           rw w.count-is (omega arith, omega (arith, keep_here t hs i blank l length e, c.loop-holding.invariant.1))
-      | else_passes w ↦
+      | else-passes w ↦
           let e : t (get_or hs i blank) ≡ false = cc in
           rw w.count-is (omega arith, omega (arith, keep_later t hs i blank l length e, c.loop-holding.invariant.1))
     ]

@@ -3,4 +3,4 @@ use Rattle.holders.proofs.holders.makers.Goals as goal
 
 pub returns : goal.returns
 unfolding makers
-returns c = c.jobs-passing.ensures
+returns c = c.jobs_passing.ensures

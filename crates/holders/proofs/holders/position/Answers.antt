@@ -3,7 +3,7 @@ use Rattle.std.proofs.lemmas.List.{at_drop_all}
 use Rattle.protocol.specs.Holdings.{position}
 use Rattle.holders.proofs.Standing.{position_none, position_here, position_other, position_skip}
 use Rattle.holders.proofs.holders.position.Goals as goal
-use Rattle.holders.proofs.holders.position.Goals.{then_holding_place+else_holding_object, else_holding_place}
+use Rattle.holders.proofs.holders.position.Goals.{then-holding-place+else-holding-object, else-holding-place}
 
 pub returns-then-holding-object : goal.returns-then-holding-object
 returns-then-holding-object c =
@@ -17,8 +17,8 @@ loop-holding-preserved c =
     let i = c.loop-holding.holding-index in
     let l = c.loop-holding-test.true in
     elim c.if-holding-place.branch [
-      | then_holding_place+else_holding_object w ↦ rw w.count-is (omega arith, omega (arith, c.loop-holding.invariant.1, position_other p o hs i l w.if-holding-place.true w.if-holding-object.false))
-      | else_holding_place w ↦ rw w.count-is (omega arith, omega (arith, c.loop-holding.invariant.1, position_skip p o hs i l w.if-holding-place.false))
+      | then-holding-place+else-holding-object w ↦ rw w.count-is (omega arith, omega (arith, c.loop-holding.invariant.1, position_other p o hs i l w.if-holding-place.true w.if-holding-object.false))
+      | else-holding-place w ↦ rw w.count-is (omega arith, omega (arith, c.loop-holding.invariant.1, position_skip p o hs i l w.if-holding-place.false))
     ]
 
 pub returns : goal.returns

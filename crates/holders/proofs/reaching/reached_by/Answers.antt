@@ -11,5 +11,5 @@ returns c =
     let w : ℕ → ℕ = mask_at c.waiting.result in
     let hs = c.args.holdings.now in
     let new = new_waits hs c.args.new.now in
-    let start : rounds w 17 c.new-waits.result.mask ≡ rounds w 17 (placed new) = ap (rounds w 17) c.new-waits.ensures in
+    let start : rounds w 17 c.new_waits.result.mask ≡ rounds w 17 (placed new) = ap (rounds w 17) c.new_waits.ensures in
     c.reached.ensures ∙ start ∙ reach_placed w (waits hs) c.waiting.ensures.each new

@@ -4,4 +4,4 @@ use Rattle.holders.specs.Sets.{mask_at}
 use Rattle.holders.proofs.reaching.spread_often.Given as goal
 
 abbrev pub invariant-loop-round : goal.invariant-loop-round
-invariant-loop-round l = rounds (mask_at l.sets) (l.times - l.-round) l.all.mask ≡ rounds (mask_at l.sets) l.times l.initial.all.mask
+invariant-loop-round l = rounds (mask_at l.sets) (l.times - l._round) l.all.mask ≡ rounds (mask_at l.sets) l.times l.initial.all.mask

@@ -5,7 +5,7 @@ use Rattle.holders.specs.Sets.{mask_at}
 use Rattle.holders.proofs.Joins.{none_join}
 use Rattle.holders.proofs.Spread.{spread_none, spread_more}
 use Rattle.holders.proofs.reaching.spread_once.Goals as goal
-use Rattle.holders.proofs.reaching.spread_once.Goals.{then_has, else_has}
+use Rattle.holders.proofs.reaching.spread_once.Goals.{then-has, else-has}
 
 pub loop-place-init : goal.loop-place-init
 loop-place-init c = sym (spread_none (mask_at c.args.sets.now) c.args.set.mask)
@@ -19,6 +19,6 @@ loop-place-preserved c =
     let more : spread w (n + 1) s ≡ join (cond (has s n) (w n) 0) all =
     ap (λ k. spread w k s) (add-one n) ∙ spread_more w n s ∙ ap (join (cond (has s n) (w n) 0)) (sym c.loop-place.invariant) in
     elim c.if-has.branch [
-      | then_has v ↦ rw v.all-is (v.joined-all.ensures ∙ sym (more ∙ ap (λ b. join (cond b (w n) 0) all) (let e : has s n ≡ true = cc in e)))
-      | else_has v ↦ rw v.all-is (sym (more ∙ ap (λ b. join (cond b (w n) 0) all) (let e : has s n ≡ false = cc in e) ∙ none_join all))
+      | then-has v ↦ rw v.all-is (v.joined-all.ensures ∙ sym (more ∙ ap (λ b. join (cond b (w n) 0) all) (let e : has s n ≡ true = cc in e)))
+      | else-has v ↦ rw v.all-is (sym (more ∙ ap (λ b. join (cond b (w n) 0) all) (let e : has s n ≡ false = cc in e) ∙ none_join all))
     ]

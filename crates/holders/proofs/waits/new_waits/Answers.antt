@@ -3,4 +3,4 @@ use Rattle.holders.proofs.waits.new_waits.Goals as goal
 
 pub returns : goal.returns
 unfolding new_waits
-returns c = c.jobs-passing.ensures
+returns c = c.jobs_passing.ensures

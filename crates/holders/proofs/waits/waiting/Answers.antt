@@ -6,7 +6,7 @@ use Rattle.holders.specs.Placed.{blank}
 use Rattle.holders.specs.Sets.{mask_at}
 use Rattle.holders.proofs.OneMore.{waiting_none, waiting_more, waiting_skip}
 use Rattle.holders.proofs.waits.waiting.Goals as goal
-use Rattle.holders.proofs.waits.waiting.Goals.{then_place_lt16, else_place_lt16}
+use Rattle.holders.proofs.waits.waiting.Goals.{then-place-lt16, else-place-lt16}
 
 pub loop-i-init : goal.loop-i-init
 loop-i-init c = waiting_none c.args.holdings.now
@@ -19,10 +19,10 @@ loop-i-preserved c =
     let l = c.loop-i-test.true in
     let h = get_or hs i blank in
     elim c.if-place-lt16.branch [
-      | then_place_lt16 w ↦
-          let is : w.with-waits.result.mask ≡ join (mask_at sets h.job) (placed (new_waits (take i hs) h)) = cc in
-          rw w.sets-is (waiting_more hs sets i l c.loop-i.invariant w.with-waits.result w.if-place-lt16.true is)
-      | else_place_lt16 w ↦ rw w.sets-is (waiting_skip hs sets i l c.loop-i.invariant w.if-place-lt16.false)
+      | then-place-lt16 w ↦
+          let is : w.with_waits.result.mask ≡ join (mask_at sets h.job) (placed (new_waits (take i hs) h)) = cc in
+          rw w.sets-is (waiting_more hs sets i l c.loop-i.invariant w.with_waits.result w.if-place-lt16.true is)
+      | else-place-lt16 w ↦ rw w.sets-is (waiting_skip hs sets i l c.loop-i.invariant w.if-place-lt16.false)
     ]
 
 pub returns : goal.returns

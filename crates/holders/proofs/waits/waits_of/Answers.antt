@@ -7,7 +7,7 @@ use Rattle.holders.specs.Sets.{blocks}
 use Rattle.holders.proofs.Gathered.{gathered_none, gathered_more, gathered_skip, gathered_all}
 use Rattle.holders.proofs.Sets.{waits_none, waits_more}
 use Rattle.holders.proofs.waits.waits_of.Goals as goal
-use Rattle.holders.proofs.waits.waits_of.Goals.{then_is_in_the_way, else_is_in_the_way}
+use Rattle.holders.proofs.waits.waits_of.Goals.{then-is_in_the_way, else-is_in_the_way}
 
 pub loop-i-init : goal.loop-i-init
 loop-i-init c =
@@ -21,13 +21,13 @@ loop-i-preserved c =
     let i = c.loop-i.i in
     let h = get_or hs i blank in
     let l = c.loop-i-test.true in
-    let is : c.is-in-the-way.result ≡ blocks p h (drop (i + 1) hs) = c.is-in-the-way.ensures ∙ ap (blocks p h) (take_rest hs (i + 1)) in
-    elim c.if-is-in-the-way.branch [
-      | then_is_in_the_way w ↦
+    let is : c.is_in_the_way.result ≡ blocks p h (drop (i + 1) hs) = c.is_in_the_way.ensures ∙ ap (blocks p h) (take_rest hs (i + 1)) in
+    elim c.if-is_in_the_way.branch [
+      | then-is_in_the_way w ↦
           let e : blocks p h (drop (i + 1) hs) ≡ true = cc in
           let j : w.joined-set.result.mask ≡ join c.loop-i.set.mask (placed (single h.job)) = cc in
           rw w.set-is (gathered_more (λ hs. waits hs p) (blocks p) (λ h. single h.job) (waits_none p) (waits_more p) hs blank c.loop-i.set.mask i c.loop-i.invariant l w.joined-set.result.mask e j)
-      | else_is_in_the_way w ↦
+      | else-is_in_the_way w ↦
           let e : blocks p h (drop (i + 1) hs) ≡ false = cc in
           rw w.set-is (gathered_skip (λ hs. waits hs p) (blocks p) (λ h. single h.job) (waits_none p) (waits_more p) hs blank c.loop-i.set.mask i c.loop-i.invariant l e)
     ]

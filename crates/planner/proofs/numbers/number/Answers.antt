@@ -2,13 +2,13 @@ use Rattle.std.proofs.Common.{◌≡◌, ◌+◌, ◌-◌, ◌*◌, ◌^◌, ◌
 use Rattle.std.proofs.lemmas.Bool.Decides.{nat_tests}
 use Rattle.planner.proofs.Digits.{number_after, one_digit, no_digit, too_large, all_read}
 use Rattle.planner.proofs.numbers.number.Goals as goal
-use Rattle.planner.proofs.numbers.number.Goals.{then_byte_lt48_via_then_byte_lt48, then_byte_lt48_via_else_byte_lt48+then_byte_gt57}
+use Rattle.planner.proofs.numbers.number.Goals.{then-byte-lt48-via-then-byte-lt48, then-byte-lt48-via-else-byte-lt48+then-byte-gt57}
 
 pub returns-then-byte-lt48 : goal.returns-then-byte-lt48
 returns-then-byte-lt48 c =
     let line = c.args.line.now in
     let i = c.loop-byte.byte-index in
-    let out : (leb 48 (get_or line i 0) && leb (get_or line i 0) 57) ≡ false = elim c.then-byte-lt48.branch [ then_byte_lt48_via_then_byte_lt48 w ↦ grind (arith, nat_tests) | then_byte_lt48_via_else_byte_lt48+then_byte_gt57 w ↦ grind (arith, nat_tests) ] in
+    let out : (leb 48 (get_or line i 0) && leb (get_or line i 0) 57) ≡ false = elim c.then-byte-lt48.branch [ then-byte-lt48-via-then-byte-lt48 w ↦ grind (arith, nat_tests) | then-byte-lt48-via-else-byte-lt48+then-byte-gt57 w ↦ grind (arith, nat_tests) ] in
     sym (no_digit c.loop-byte.value line i c.loop-byte-test.true out) ∙ c.loop-byte.invariant.1
 
 pub returns-then-value-digit : goal.returns-then-value-digit

@@ -11,31 +11,31 @@ use Rattle.planner.proofs.packs.read_packs.Goals as goal
 some : (text : List ℕ) → false ≡ eqb (length text) 0 → 0 < length text
 some text e = let no = eqb-false (length text) 0 (sym e) in omega arith
 
-pub returns-then-line-gt-MOST-PACKS : goal.returns-then-line-gt-MOST-PACKS
-returns-then-line-gt-MOST-PACKS c =
+pub returns-then-line-gt-MOST_PACKS : goal.returns-then-line-gt-MOST_PACKS
+returns-then-line-gt-MOST_PACKS c =
     let read = c.loop-rest.packs.items in
     let line : length read + 1 ≡ c.len-line.result + 1 = omega (arith, c.loop-rest.packs.ok.0) in
     sym c.loop-rest.invariant ∙ one_too_many read c.loop-rest.rest.now (some c.loop-rest.rest.now c.loop-rest-test.ensures) (omega arith) ∙ ap (λ n. Err (TooMany n)) line
 
-pub returns-in-default : goal.returns-in-default
-returns-in-default c =
+pub returns-in_default : goal.returns-in_default
+returns-in_default c =
     let read = c.loop-rest.packs.items in
     let line : length read + 1 ≡ c.len-line.result + 1 = omega (arith, c.loop-rest.packs.ok.0) in
-    sym c.loop-rest.invariant ∙ no_pack read c.loop-rest.rest.now (some c.loop-rest.rest.now c.loop-rest-test.ensures) (omega arith) (c.in-default.ensures ∙ ap number_of c.cut-line.ensures.line) ∙ ap (λ n. Err (NoNumber n)) line
+    sym c.loop-rest.invariant ∙ no_pack read c.loop-rest.rest.now (some c.loop-rest.rest.now c.loop-rest-test.ensures) (omega arith) (c.in_default.ensures ∙ ap number_of c.cut_line.ensures.line) ∙ ap (λ n. Err (NoNumber n)) line
 
 pub loop-rest-smaller : goal.loop-rest-smaller
 loop-rest-smaller c =
     let shorter = after_shorter c.loop-rest.rest.now (some c.loop-rest.rest.now c.loop-rest-test.ensures) in
-    omega (arith, ap length c.cut-line.ensures.rest)
+    omega (arith, ap length c.cut_line.ensures.rest)
 
 pub loop-rest-preserved : goal.loop-rest-preserved
 loop-rest-preserved c =
     let read = c.loop-rest.packs.items in
     let rest = c.loop-rest.rest.now in
     let pack = c.in-Some.pack in
-    ap (λ l. packs_after l (lines_of c.cut-line.result.1.now)) c.in-ok-push.ensures.items
-    ∙ ap (λ l. packs_after (read ++ pack ∷ []) (lines_of l)) c.cut-line.ensures.rest
-    ∙ sym (pack_read read rest (some c.loop-rest.rest.now c.loop-rest-test.ensures) pack (omega (arith, c.loop-rest.packs.ok.0)) (c.in-Some.ensures ∙ ap number_of c.cut-line.ensures.line))
+    ap (λ l. packs_after l (lines_of c.cut_line.result.1.now)) c.in_ok-push.ensures.items
+    ∙ ap (λ l. packs_after (read ++ pack ∷ []) (lines_of l)) c.cut_line.ensures.rest
+    ∙ sym (pack_read read rest (some c.loop-rest.rest.now c.loop-rest-test.ensures) pack (omega (arith, c.loop-rest.packs.ok.0)) (c.in-Some.ensures ∙ ap number_of c.cut_line.ensures.line))
     ∙ c.loop-rest.invariant
 
 pub returns : goal.returns

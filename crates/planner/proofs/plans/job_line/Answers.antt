@@ -2,7 +2,7 @@ use Rattle.std.proofs.Common.{◌≡◌, ◌+◌, ◌<◌, ◌≤◌, length, sy
 use Rattle.terms.specs.declared.modes.Mode.TheVariants.{Read}
 use Rattle.planner.proofs.Left.{work_at_end, one_more, no_more, value_met, value_there}
 use Rattle.planner.proofs.plans.job_line.Goals as goal
-use Rattle.planner.proofs.plans.job_line.Goals.{in_Some, in_default}
+use Rattle.planner.proofs.plans.job_line.Goals.{in-Some, in_default}
 
 pub loop-object-preserved : goal.loop-object-preserved
 loop-object-preserved g c =
@@ -13,11 +13,11 @@ loop-object-preserved g c =
     let object = c.loop-object.object in
     let here : object < length values = omega arith in
     elim c.match-read.branch [
-      | in_Some w ↦
+      | in-Some w ↦
           ap (λ work. work_at_end rule kind argument values work (object + 1))
           (w.work-is ∙ w.take-work.ensures.taken ∙ ap (rule.take kind argument c.loop-object.work object Read) (value_met values object w.in-Some.met here w.in-Some.ensures.reads))
           ∙ sym (one_more rule kind argument values c.loop-object.work object here) ∙ c.loop-object.invariant
-      | in_default w ↦ absurd (value_there values object here w.in-default.ensures.reads)
+      | in_default w ↦ absurd (value_there values object here w.in_default.ensures.reads)
     ]
 
 pub returns : goal.returns

@@ -6,7 +6,7 @@ use Rattle.planner.proofs.plans.plan_sheet.Goals as goal
 pub loop-i-preserved : goal.loop-i-preserved
 loop-i-preserved g c =
     let values = g.S.Store.values c.args.store.now in (
-      line_more values c.loop-i.sheet c.loop-i.i c.job-line-hours.result (omega arith) c.loop-i.invariant.1 c.loop-i.invariant.0 c.job-line-hours.ensures,
+      line_more values c.loop-i.sheet c.loop-i.i c.job_line-hours.result (omega arith) c.loop-i.invariant.1 c.loop-i.invariant.0 c.job_line-hours.ensures,
       length-set c.loop-i.sheet c.loop-i.i _ ∙ c.loop-i.invariant.1,
     )
 

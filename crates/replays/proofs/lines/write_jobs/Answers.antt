@@ -5,7 +5,7 @@ use Rattle.replays.proofs.Few.{few_executions}
 use Rattle.replays.proofs.Telling.{with_job, without_job}
 use Rattle.replays.proofs.Writing.{line_more, lines_done}
 use Rattle.replays.proofs.lines.write_jobs.Goals as goal
-use Rattle.replays.proofs.lines.write_jobs.Goals.{then_is_some+in_ok_line+in_ok_push_str, else_is_some}
+use Rattle.replays.proofs.lines.write_jobs.Goals.{then-is-some+in-ok-line+in-ok-push-str, else-is-some}
 
 pub loop-place-preserved : goal.loop-place-preserved
 loop-place-preserved c =
@@ -16,7 +16,7 @@ loop-place-preserved c =
     let whole = string_bytes c.args.out.now ++ lines_from (place_bytes es) 0 b.jobs in
     let there : p < length b.jobs = omega (arith, b.places, c.loop-place-test.true) in
     elim c.if-is-some.branch [
-      | then_is_some+in_ok_line+in_ok_push_str w ↦
+      | then-is-some+in-ok-line+in-ok-push-str w ↦
           rw w.out-is (
           line_more (place_bytes es) p b.jobs p now whole c.loop-place.invariant None (string_bytes w.push-str.new.self) there
           (w.in-ok-push-str.ensures.bytes
@@ -25,7 +25,7 @@ loop-place-preserved c =
           ∙ with_job es p _ (get_or b.jobs p None) (sym (c.is-some.ensures ∙ ap is_some c.job.ensures) ∙ w.if-is-some.true)
           (omega (arith, w.execution-count-count.ensures, few_executions b p))))
           )
-      | else_is_some w ↦
+      | else-is-some w ↦
           rw w.out-is (
           line_more (place_bytes es) p b.jobs p now whole c.loop-place.invariant None now there
           (without_job es p (get_or b.jobs p None) now (sym (c.is-some.ensures ∙ ap is_some c.job.ensures) ∙ w.if-is-some.false))

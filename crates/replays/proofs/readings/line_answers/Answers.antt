@@ -2,7 +2,7 @@ use Rattle.std.proofs.Common.{◌≡◌, [], ◌∷◌, ◌++◌, drop, vec_item
 use Rattle.replays.specs.Merged.{merged}
 use Rattle.replays.proofs.Merging.{merged_call, merged_fault, merged_done}
 use Rattle.replays.proofs.readings.line_answers.Goals as goal
-use Rattle.replays.proofs.readings.line_answers.Goals.{in_Ok, in_Err}
+use Rattle.replays.proofs.readings.line_answers.Goals.{in-Ok, in-Err}
 
 pub loop-reading-preserved : goal.loop-reading-preserved
 loop-reading-preserved c =
@@ -16,9 +16,9 @@ loop-reading-preserved c =
     let inv = c.loop-reading.invariant in
     let pushed : after ≡ before ++ c.match-reading.number ∷ [] = c.in-ok-push.ensures.items in
     elim c.match-reading.branch [
-      | in_Ok w ↦
+      | in-Ok w ↦
           rw w.next-is (omega (arith, inv.0), merged_call rs i _ c.loop-reading-test.true before after whole told n inv.1 _ w.in-Ok.is (pushed ∙ ap (λ k. before ++ k ∷ []) (w.number-is ∙ w.answer-at-answer.ensures)))
-      | in_Err w ↦
+      | in-Err w ↦
           rw w.next-is (omega (arith, inv.0), merged_fault rs i _ c.loop-reading-test.true before after whole told n inv.1 _ w.in-Err.is (pushed ∙ ap (λ k. before ++ k ∷ []) (w.number-is ∙ w.number-number.ensures)))
     ]
 

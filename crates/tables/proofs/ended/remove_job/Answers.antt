@@ -3,7 +3,7 @@ use Rattle.std.proofs.lemmas.List.{map-id}
 use Rattle.tables.specs.Ended.{padded}
 use Rattle.tables.proofs.Sifting.{sifting_passes, sifting_goes, sifted_count, sifted_padded}
 use Rattle.tables.proofs.ended.remove_job.Goals as goal
-use Rattle.tables.proofs.ended.remove_job.Goals.{then_is_other, else_is_other}
+use Rattle.tables.proofs.ended.remove_job.Goals.{then-is_other, else-is_other}
 
 pub loop-i-preserved : goal.loop-i-preserved
 loop-i-preserved g c =
@@ -12,13 +12,13 @@ loop-i-preserved g c =
     let ys = c.loop-i.records in
     let x = c.index-records-i.result in
     let l : c.loop-i.i < length ys = omega (arith, c.loop-i.invariant.long) in
-    elim c.if-is-other.branch [
-      | then_is_other w ↦
+    elim c.if-is_other.branch [
+      | then-is_other w ↦
           rw (w.records-is, w.live-is)
-          (sifting_passes t (λ x. x) xs ys c.loop-i.live c.loop-i.i x c.loop-i.invariant l c.index-records-i.is x refl (sym c.is-other.ensures ∙ w.if-is-other.true))
-      | else_is_other w ↦
+          (sifting_passes t (λ x. x) xs ys c.loop-i.live c.loop-i.i x c.loop-i.invariant l c.index-records-i.is x refl (sym c.is_other.ensures ∙ w.if-is_other.true))
+      | else-is_other w ↦
           rw (w.records-is, w.live-is)
-          (sifting_goes t (λ x. x) xs ys c.loop-i.live c.loop-i.i x c.loop-i.invariant l c.index-records-i.is (sym c.is-other.ensures ∙ w.if-is-other.false))
+          (sifting_goes t (λ x. x) xs ys c.loop-i.live c.loop-i.i x c.loop-i.invariant l c.index-records-i.is (sym c.is_other.ensures ∙ w.if-is_other.false))
     ]
 
 pub returns : goal.returns

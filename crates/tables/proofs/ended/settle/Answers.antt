@@ -2,7 +2,7 @@ use Rattle.std.proofs.Common.{◌≡◌, ◌<◌, ◌≤◌, Bool, true, false, 
 use Rattle.protocol.specs.Settling.{survives, settled}
 use Rattle.tables.proofs.Sifting.{sifting_passes, sifting_goes, sifted_count, sifted_padded}
 use Rattle.tables.proofs.ended.settle.Goals as goal
-use Rattle.tables.proofs.ended.settle.Goals.{then_stays, else_stays}
+use Rattle.tables.proofs.ended.settle.Goals.{then-stays, else-stays}
 
 pub loop-i-preserved : goal.loop-i-preserved
 loop-i-preserved g c =
@@ -14,11 +14,11 @@ loop-i-preserved g c =
     let x = c.index-records-i.result in
     let l : c.loop-i.i < length ys = omega (arith, c.loop-i.invariant.long) in
     elim c.if-stays.branch [
-      | then_stays w ↦
+      | then-stays w ↦
           let is : w.assume.result ≡ f x = w.assume.ensures ∙ ap (a.assuming x) (w.settled.ensures ∙ ap (settled c.args.place) w.assumption.ensures) in
           rw (w.records-is, w.live-is)
           (sifting_passes t f xs ys c.loop-i.live c.loop-i.i x c.loop-i.invariant l c.index-records-i.is w.assume.result is (sym c.stays.ensures ∙ w.if-stays.true))
-      | else_stays w ↦
+      | else-stays w ↦
           rw (w.records-is, w.live-is)
           (sifting_goes t f xs ys c.loop-i.live c.loop-i.i x c.loop-i.invariant l c.index-records-i.is (sym c.stays.ensures ∙ w.if-stays.false))
     ]

@@ -9,7 +9,7 @@ use Rattle.std.specs.List.{slice_get}
 use Rattle.book.specs.Questions.{made_version}
 use Rattle.book.proofs.Searched.{keep_here, keep_later, keep_end, nth_more, same_read}
 use Rattle.book.proofs.state.questions.nth_made.Goals as goal
-use Rattle.book.proofs.state.questions.nth_made.Goals.{then_version_object+else_left_eq0, else_version_object}
+use Rattle.book.proofs.state.questions.nth_made.Goals.{then-version-object+else-left-eq0, else-version-object}
 
 pub loop-version-init : goal.loop-version-init
 loop-version-init c = refl
@@ -33,12 +33,12 @@ loop-version-preserved c =
     let l = c.loop-version-test.true in
     let left = c.loop-version.left in
     elim c.if-version-object.branch [
-      | then_version_object+else_left_eq0 w ↦
+      | then-version-object+else-left-eq0 w ↦
           rw w.left-is (
           sym (ap (λ xs. slice_get (map made_version xs) left) (keep_here t vs i v l (same_read vs i no_version l) (eq-eqb _ _ w.if-version-object.true))
           ∙ nth_more (made_version v) (map made_version (keep t (drop (i + 1) vs))) left w.if-left-eq0.false) ∙ c.loop-version.invariant
           )
-      | else_version_object w ↦
+      | else-version-object w ↦
           rw w.left-is (sym (ap (λ xs. slice_get (map made_version xs) left) (keep_later t vs i v l (same_read vs i no_version l) (ne_eqb _ _ w.if-version-object.false))) ∙ c.loop-version.invariant)
     ]
 

@@ -5,5 +5,5 @@ use Rattle.stores.proofs.image.ImageStore.zeroed.Goals as goal
 
 pub returns : goal.returns
 returns c =
-    let zeros = c.in-ok-image.ensures.items-if-clones-equal (λ y e. e) in
+    let zeros = c.in_ok-image.ensures.items_if_clones_equal (λ y e. e) in
     record { whole = zeros; holds = ap image_values zeros ∙ image_zeros c.args.count }

@@ -4,8 +4,8 @@ use Rattle.stores.proofs.Images.{image_length, get_or_image, objects_fit, object
 use Rattle.stores.proofs.Answered.{value_in}
 use Rattle.stores.proofs.image.ImageStoreStore.read.Goals as goal
 
-pub overflow-mul-object : goal.overflow-mul-object
-overflow-mul-object c = let bs = c.args.self.now.image.items in omega (arith, image_length bs, objects_few bs)
+pub overflow_mul-object : goal.overflow_mul-object
+overflow_mul-object c = let bs = c.args.self.now.image.items in omega (arith, image_length bs, objects_few bs)
 
 pub word-requires : goal.word-requires
 word-requires c = let bs = c.args.self.now.image.items in omega (arith, image_length bs, objects_fit bs)

@@ -6,14 +6,14 @@ use Rattle.stores.proofs.Images.{image_length, objects_fit, objects_few, bytes_w
 use Rattle.stores.proofs.Answered.{object_in, object_out, cond_in, cond_out}
 use Rattle.stores.proofs.image.ImageStoreStore.write.Goals as goal
 
-pub overflow-mul-place : goal.overflow-mul-place
-overflow-mul-place c = let bs = c.args.self.now.image.items in omega (arith, image_length bs, objects_few bs)
+pub overflow_mul-place : goal.overflow_mul-place
+overflow_mul-place c = let bs = c.args.self.now.image.items in omega (arith, image_length bs, objects_few bs)
 
-pub overflow-add-place : goal.overflow-add-place
-overflow-add-place c = let bs = c.args.self.now.image.items in omega (arith, image_length bs, objects_few bs)
+pub overflow_add-place : goal.overflow_add-place
+overflow_add-place c = let bs = c.args.self.now.image.items in omega (arith, image_length bs, objects_few bs)
 
-pub slice-bounds-copy-from-slice-end : goal.slice-bounds-copy-from-slice-end
-slice-bounds-copy-from-slice-end c = let bs = c.args.self.now.image.items in omega (arith, image_length bs, objects_fit bs)
+pub slice_bounds-copy_from_slice-end : goal.slice_bounds-copy_from_slice-end
+slice_bounds-copy_from_slice-end c = let bs = c.args.self.now.image.items in omega (arith, image_length bs, objects_fit bs)
 
 pub returns : goal.returns
 returns c =
@@ -23,8 +23,8 @@ returns c =
     let v = c.args.value in
     let here : k < objects_in bs = omega (arith, image_length bs) in
     let small : v < 2 ^ 64 = omega arith in
-    let is = c.copy-from-slice.ensures.after ∙ c.to-be-bytes-bytes.ensures in
-    let written = bytes_written bytes c.as-mut-slice.result.now c.copy-from-slice.new.self k v c.as-mut-slice.ensures.value here is small in
+    let is = c.copy_from_slice.ensures.after ∙ c.to_be_bytes-bytes.ensures in
+    let written = bytes_written bytes c.as_mut_slice.result.now c.copy_from_slice.new.self k v c.as_mut_slice.ensures.value here is small in
     record {
       answers = object_in (image_values bs) k (omega arith);
       replaces = ap image_values written ∙ values_written bs (bytes_of v) k v here refl small;

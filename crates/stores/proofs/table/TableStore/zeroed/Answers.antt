@@ -5,5 +5,5 @@ use Rattle.stores.proofs.table.TableStore.zeroed.Goals as goal
 
 pub returns : goal.returns
 returns c =
-    let zeros = c.in-ok-numbers.ensures.items-if-clones-equal (λ y e. e) in
+    let zeros = c.in_ok-numbers.ensures.items_if_clones_equal (λ y e. e) in
     record { whole = zeros; holds = ap table_values zeros ∙ table_zeros c.args.count }

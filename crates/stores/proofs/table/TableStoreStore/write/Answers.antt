@@ -5,8 +5,8 @@ use Rattle.stores.proofs.Answered.{object_in, object_out, cond_in, cond_out}
 use Rattle.stores.proofs.Tables.{table_set}
 use Rattle.stores.proofs.table.TableStoreStore.write.Goals as goal
 
-pub index-mut-requires : goal.index-mut-requires
-index-mut-requires c = omega (arith, table_length c.args.self.now.numbers.items)
+pub index_mut-requires : goal.index_mut-requires
+index_mut-requires c = omega (arith, table_length c.args.self.now.numbers.items)
 
 pub returns : goal.returns
 returns c =

@@ -2,5 +2,5 @@ use Rattle.std.proofs.Common.{arith}
 use Rattle.std.proofs.lemmas.List.{length-replicate, drop-replicate}
 use Rattle.tables.proofs.table.Table.new.Goals as goal
 
-pub invariant-of-result : goal.invariant-of-result
-invariant-of-result g c = (omega arith, (length-replicate g.row.N c.args.empty, (drop-replicate _ g.row.N c.args.empty, tt)))
+pub invariant_of-result : goal.invariant_of-result
+invariant_of-result g c = (omega arith, (length-replicate g.row.N c.args.empty, (drop-replicate _ g.row.N c.args.empty, tt)))

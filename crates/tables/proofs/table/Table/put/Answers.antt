@@ -3,8 +3,8 @@ use Rattle.std.proofs.lemmas.List.{take_more_set, length-set}
 use Rattle.tables.proofs.Tables.{put_rest}
 use Rattle.tables.proofs.table.Table.put.Goals as goal
 
-pub invariant-of-self : goal.invariant-of-self
-invariant-of-self g c =
+pub invariant_of-self : goal.invariant_of-self
+invariant_of-self g c =
     let t = c.args.self.now in
     (omega arith, (length-set t.records t.count c.args.record ∙ t.long, (put_rest t c.args.record (omega arith), tt)))
 

@@ -3,8 +3,8 @@ use Rattle.protocol.specs.Holdings.{turn}
 use Rattle.tables.proofs.Tables.{changed}
 use Rattle.tables.proofs.table.holdings.Table+Holding+128.turn.Goals as goal
 
-pub invariant-of-self : goal.invariant-of-self
-invariant-of-self c =
+pub invariant_of-self : goal.invariant_of-self
+invariant_of-self c =
     let t = changed c.args.self.now (turn c.args.place c.args.object) c.turn.new.holdings c.turn.ensures in
     (t.within, (t.long, (t.rest, tt)))
 

@@ -4,8 +4,8 @@ use Rattle.tables.specs.Ended.{settled_records}
 use Rattle.tables.proofs.Tables.{shrunk}
 use Rattle.tables.proofs.table.versions.Table+Version+256.settle.Goals as goal
 
-pub invariant-of-self : goal.invariant-of-self
-invariant-of-self c =
+pub invariant_of-self : goal.invariant_of-self
+invariant_of-self c =
     let s = c.settle-self in
     let F : List Version → List Version = settled_records (λ v. v.maker) (λ v. v.assumes) (λ v a. record { object = v.object; maker = v.maker; value = v.value; assumes = a }) c.args.ending c.args.place in
     let t = shrunk c.args.self.now F s.new.records s.result s.ensures.left s.ensures.after (omega arith) in
