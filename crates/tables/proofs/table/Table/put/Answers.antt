@@ -6,7 +6,7 @@ use Rattle.tables.proofs.table.Table.put.Goals as goal
 pub invariant_of-self : goal.invariant_of-self
 invariant_of-self g c =
     let t = c.args.self.now in
-    (omega arith, (length-set t.records t.count c.args.record ∙ t.long, (put_rest t c.args.record (omega arith), tt)))
+    record { within = omega arith; long = length-set t.records t.count c.args.record ∙ t.long; rest = put_rest t c.args.record (omega arith) }
 
 pub returns : goal.returns
 returns g c =

@@ -9,7 +9,7 @@ invariant_of-self c =
     let s = c.remove_job-self in
     let F : List Execution → List Execution = others (λ e. e.job) c.args.place in
     let t = shrunk c.args.self.now F s.new.records s.result s.ensures.left s.ensures.after (omega arith) in
-    (t.within, (t.long, (t.rest, tt)))
+    record { within = t.within; long = t.long; rest = t.rest }
 
 pub returns : goal.returns
 returns c =

@@ -6,7 +6,7 @@ use Rattle.tables.proofs.table.holdings.Table+Holding+128.turn.Goals as goal
 pub invariant_of-self : goal.invariant_of-self
 invariant_of-self c =
     let t = changed c.args.self.now (turn c.args.place c.args.object) c.turn.new.holdings c.turn.ensures in
-    (t.within, (t.long, (t.rest, tt)))
+    record { within = t.within; long = t.long; rest = t.rest }
 
 pub returns : goal.returns
 returns c =

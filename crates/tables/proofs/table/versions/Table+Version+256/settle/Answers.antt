@@ -9,7 +9,7 @@ invariant_of-self c =
     let s = c.settle-self in
     let F : List Version → List Version = settled_records (λ v. v.maker) (λ v. v.assumes) (λ v a. record { object = v.object; maker = v.maker; value = v.value; assumes = a }) c.args.ending c.args.place in
     let t = shrunk c.args.self.now F s.new.records s.result s.ensures.left s.ensures.after (omega arith) in
-    (t.within, (t.long, (t.rest, tt)))
+    record { within = t.within; long = t.long; rest = t.rest }
 
 pub returns : goal.returns
 returns c =
