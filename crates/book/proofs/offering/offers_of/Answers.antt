@@ -16,8 +16,8 @@ use Rattle.book.proofs.offering.offers_of.Goals.{then-version-object, else-versi
 pub loop-version-init : goal.loop-version-init
 loop-version-init c =
     let all = items c.push.new.self in
-    let pushed = with_room 257 (items c.new-all.result) (c.stored-offer.result ∷ []) all c.push.result c.push.ensures.added (omega (arith, ap length c.new-all.ensures.starts)) in
-    (omega (arith, ap length (pushed ∙ ap (λ l. l ++ c.stored-offer.result ∷ []) c.new-all.ensures.starts)), refl)
+    let pushed = with_room 257 (items c.new-all.result) (c.stored_offer.result ∷ []) all c.push.result c.push.ensures.added (omega (arith, ap length c.new-all.ensures.starts)) in
+    (omega (arith, ap length (pushed ∙ ap (λ l. l ++ c.stored_offer.result ∷ []) c.new-all.ensures.starts)), refl)
 
 pub loop-version-preserved : goal.loop-version-preserved
 loop-version-preserved c =
@@ -34,8 +34,8 @@ loop-version-preserved c =
     elim c.if-version-object.branch [
       | then-version-object w ↦
           let x : items w.push-then-version-object.new.self ≡ now ++ f v ∷ [] =
-          with_room 257 now (w.version-offer.result ∷ []) (items w.push-then-version-object.new.self) w.push-then-version-object.result w.push-then-version-object.ensures.added (omega (arith, c.requires.1, c.loop-version.invariant.0, c.loop-version-test.true))
-          ∙ ap (λ y. now ++ y ∷ []) w.version-offer.ensures in
+          with_room 257 now (w.version_offer.result ∷ []) (items w.push-then-version-object.new.self) w.push-then-version-object.result w.push-then-version-object.ensures.added (omega (arith, c.requires.1, c.loop-version.invariant.0, c.loop-version-test.true))
+          ∙ ap (λ y. now ++ y ∷ []) w.version_offer.ensures in
           let y : F (v ∷ []) ≡ f v ∷ [] = ap (map f) (keep_yes t v (eq-eqb v.object o w.if-version-object.true)) in
           rw w.all-is (omega (arith, c.loop-version.invariant.0, ap length x, length_push now (f v)), step (items w.push-then-version-object.new.self) (x ∙ ap (λ l. now ++ l) (sym y)))
       | else-version-object w ↦
@@ -51,7 +51,7 @@ returns c =
     let F : List Version → List Offer = λ vs. map f (keep t vs) in
     let more : (v : Version) (vs : List Version) → F (v ∷ vs) ≡ F (v ∷ []) ++ F vs = λ v vs. ap (map f) (keep_cons t v vs) ∙ map-append f (keep t (v ∷ [])) (keep t vs) in
     let all = items c.push.new.self in
-    let pushed = with_room 257 (items c.new-all.result) (c.stored-offer.result ∷ []) all c.push.result c.push.ensures.added (omega (arith, ap length c.new-all.ensures.starts)) in
+    let pushed = with_room 257 (items c.new-all.result) (c.stored_offer.result ∷ []) all c.push.result c.push.ensures.added (omega (arith, ap length c.new-all.ensures.starts)) in
     adding_all F (λ v. F (v ∷ [])) refl more all (items c.loop-version.all) c.args.versions.now c.loop-version.version-index c.loop-version.invariant.1 c.loop-version-test.false
-    ∙ ap (λ l. l ++ F c.args.versions.now) (pushed ∙ ap (λ l. l ++ c.stored-offer.result ∷ []) c.new-all.ensures.starts)
-    ∙ ap (λ x. x ∷ F c.args.versions.now) c.stored-offer.ensures
+    ∙ ap (λ l. l ++ F c.args.versions.now) (pushed ∙ ap (λ l. l ++ c.stored_offer.result ∷ []) c.new-all.ensures.starts)
+    ∙ ap (λ x. x ∷ F c.args.versions.now) c.stored_offer.ensures

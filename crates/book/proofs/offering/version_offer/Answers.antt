@@ -9,4 +9,4 @@ pub returns : goal.returns
 returns c =
     let v = c.args.version.now in
     let F : ℕ → Offer = λ m. record { value = v.value; assumes = assume (commits_of v.assumes) m } in
-    ap F (c.joined.ensures ∙ ap (join (aborts_of v.assumes)) (c.later-makers-later.ensures ∙ later_makers_placed c.args.object v.maker c.args.holdings.now c.requires))
+    ap F (c.joined.ensures ∙ ap (join (aborts_of v.assumes)) (c.later_makers-later.ensures ∙ later_makers_placed c.args.object v.maker c.args.holdings.now c.requires))

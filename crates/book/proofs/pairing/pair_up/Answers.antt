@@ -11,7 +11,7 @@ use Rattle.book.specs.Blanks.{no_execution}
 use Rattle.book.proofs.Adding.{adding_more, adding_over, adding_all}
 use Rattle.book.proofs.Pairs.{pairs_none, pairs_more, pairs_mine, pairs_other}
 use Rattle.book.proofs.pairing.pair_up.Goals as goal
-use Rattle.book.proofs.pairing.pair_up.Goals.{then-execution-request+in-ok-add-offers, else-execution-request}
+use Rattle.book.proofs.pairing.pair_up.Goals.{then-execution-request+in_ok-add_offers, else-execution-request}
 
 pub loop-execution-preserved : goal.loop-execution-preserved
 loop-execution-preserved g c =
@@ -27,14 +27,14 @@ loop-execution-preserved g c =
     let step : (after : List Execution) → after ≡ now ++ F (e ∷ []) → _ =
     adding_more F (λ e. F (e ∷ [])) (pairs_none r f xs p) (pairs_more r f xs p) (items c.args.found.now) now es i c.loop-execution.invariant.1 no_execution c.loop-execution-test.true in
     elim c.if-execution-request.branch [
-      | then-execution-request+in-ok-add-offers w ↦
-          rw w.found-is (w.in-ok-add-offers.ensures.1, step (items w.add-offers.new.found) (w.in-ok-add-offers.ensures.0 ∙ ap (λ l. now ++ l) (pairs_mine r f xs p e w.if-execution-request.true)))
+      | then-execution-request+in_ok-add_offers w ↦
+          rw w.found-is (w.in_ok-add_offers.ensures.1, step (items w.add_offers.new.found) (w.in_ok-add_offers.ensures.0 ∙ ap (λ l. now ++ l) (pairs_mine r f xs p e w.if-execution-request.true)))
       | else-execution-request w ↦
           rw w.found-is (c.loop-execution.invariant.0, step now (sym (ap (λ l. now ++ l) (pairs_other r f xs p e w.if-execution-request.false) ∙ append-nil now)))
     ]
 
-pub returns-in-err-add-offers : goal.returns-in-err-add-offers
-returns-in-err-add-offers g c =
+pub returns-in_err-add_offers : goal.returns-in_err-add_offers
+returns-in_err-add_offers g c =
     let r = c.args.request.robustness in
     let p = c.args.request.place in
     let xs = c.args.offers.now in
@@ -44,10 +44,10 @@ returns-in-err-add-offers g c =
     let i = c.loop-execution.execution-index in
     let e = get_or es i no_execution in
     let now = items c.loop-execution.found in
-    let q = err_from_is_err_and c.from-residual.result c.from-residual.ensures.1 in
-    let over : c.args.request.limit < length (now ++ F (e ∷ [])) = rw (← pairs_mine r f xs p e c.if-execution-request.true) c.in-err-add-offers.ensures.1 in
+    let q = err_from_is_err_and c.from_residual.result c.from_residual.ensures.1 in
+    let over : c.args.request.limit < length (now ++ F (e ∷ [])) = rw (← pairs_mine r f xs p e c.if-execution-request.true) c.in_err-add_offers.ensures.1 in
     rw (q.1, q.2) (
-      c.in-err-add-offers.ensures.0,
+      c.in_err-add_offers.ensures.0,
       adding_over F (λ e. F (e ∷ [])) (pairs_none r f xs p) (pairs_more r f xs p) (items c.args.found.now) now es i c.loop-execution.invariant.1
           no_execution c.args.request.limit c.loop-execution-test.true over,
     )

@@ -7,8 +7,8 @@ use Rattle.book.proofs.searching.count_of.Goals.{then-job-place, else-job-place}
 pub loop-record-init : goal.loop-record-init
 loop-record-init g c = (omega arith, omega arith)
 
-pub overflow-add-count : goal.overflow-add-count
-overflow-add-count g c = omega (arith, c.loop-record.invariant.0)
+pub overflow_add-count : goal.overflow_add-count
+overflow_add-count g c = omega (arith, c.loop-record.invariant.0)
 
 pub loop-record-preserved : goal.loop-record-preserved
 loop-record-preserved g c =

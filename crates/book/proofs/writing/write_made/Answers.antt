@@ -3,7 +3,7 @@ use Rattle.std.proofs.lemmas.List.{at_drop_all}
 use Rattle.protocol.specs.Ending.{written}
 use Rattle.book.proofs.Written.{written_none, written_here, written_later}
 use Rattle.book.proofs.writing.write_made.Goals as goal
-use Rattle.book.proofs.writing.write_made.Goals.{then-is-turned, else-is-turned}
+use Rattle.book.proofs.writing.write_made.Goals.{then-is_turned, else-is_turned}
 
 pub loop-holding-preserved : goal.loop-holding-preserved
 loop-holding-preserved g c =
@@ -12,11 +12,11 @@ loop-holding-preserved g c =
     let hs = c.args.holdings.now in
     let i = c.loop-holding.holding-index in
     let xs = g.S.Store.values c.loop-holding.store in
-    elim c.if-is-turned.branch [
-      | then-is-turned w ↦
-          rw w.store-is (sym (written_here p vs hs i c.loop-holding-test.true xs (sym c.is-turned.ensures ∙ w.if-is-turned.true) (g.S.Store.values w.write-one.new.store) w.write-one.ensures) ∙ c.loop-holding.invariant)
-      | else-is-turned w ↦
-          rw w.store-is (sym (written_later p vs hs i c.loop-holding-test.true xs (sym c.is-turned.ensures ∙ w.if-is-turned.false)) ∙ c.loop-holding.invariant)
+    elim c.if-is_turned.branch [
+      | then-is_turned w ↦
+          rw w.store-is (sym (written_here p vs hs i c.loop-holding-test.true xs (sym c.is_turned.ensures ∙ w.if-is_turned.true) (g.S.Store.values w.write_one.new.store) w.write_one.ensures) ∙ c.loop-holding.invariant)
+      | else-is_turned w ↦
+          rw w.store-is (sym (written_later p vs hs i c.loop-holding-test.true xs (sym c.is_turned.ensures ∙ w.if-is_turned.false)) ∙ c.loop-holding.invariant)
     ]
 
 pub returns : goal.returns

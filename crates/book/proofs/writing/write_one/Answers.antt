@@ -4,8 +4,8 @@ use Rattle.std.proofs.lemmas.Bool.Decides.{nat_tests}
 use Rattle.protocol.specs.Ending.{made_value}
 use Rattle.book.proofs.writing.write_one.Goals as goal
 
-pub returns-in-default : goal.returns-in-default
-returns-in-default g c =
+pub returns-in_default : goal.returns-in_default
+returns-in_default g c =
     let xs = g.S.Store.values c.args.store.now in
     let o = c.args.object in
     let h : length xs ≤ o = grind (arith, nat_tests) in

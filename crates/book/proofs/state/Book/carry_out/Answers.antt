@@ -20,9 +20,9 @@ loop-call-preserved g c =
     let x = get_or cs i d in
     let given = vec_items c.loop-call.answers in (
       sym (at_drop_more (run r m) cs i d c.loop-call-test.true ∙ run_more r m x (drop (i + 1) cs) ∙ ap (λ m. run r m (drop (i + 1) cs)) (step_from r m x c.call.result n c.call.ensures)) ∙ c.loop-call.invariant.0,
-      answers_step r m n x c.call.result c.err-answer.result (drop (i + 1) cs) given (vec_items c.push-reserved.new.self) c.call.ensures c.err-answer.ensures.value c.push-reserved.ensures.items
+      answers_step r m n x c.call.result c.err-answer.result (drop (i + 1) cs) given (vec_items c.push_reserved.new.self) c.call.ensures c.err-answer.ensures.value c.push_reserved.ensures.items
           ∙ sym (at_drop_more (λ l. given ++ answers_of r m l) cs i d c.loop-call-test.true) ∙ c.loop-call.invariant.1,
-      omega (arith, c.loop-call.invariant.2, c.push-reserved.ensures.len, c.push-reserved.ensures.capacity),
+      omega (arith, c.loop-call.invariant.2, c.push_reserved.ensures.len, c.push_reserved.ensures.capacity),
     )
 
 pub returns : goal.returns

@@ -10,25 +10,19 @@ use Rattle.book.proofs.Ended.{ended_is}
 use Rattle.book.proofs.Ringless.{ringless_left}
 use Rattle.book.proofs.state.Book.end.Goals as goal
 
-pub invariant-of-self : goal.invariant-of-self
-invariant-of-self c =
+pub invariant_of-self : goal.invariant_of-self
+invariant_of-self c =
     let b = c.args.self.now in
-    let p = c.args.place in (
-      b.limited,
-      (
-        length-set b.jobs p None ∙ b.places,
-        (
-          subst (Within 8 job_of_holding (set b.jobs p None)) (sym c.remove-job.ensures.becomes) (within_removed 8 job_of_holding b.jobs (items b.holdings) b.holds p),
-          (
-            subst (Within 16 job_of_execution (set b.jobs p None)) (sym c.settle.ensures.becomes)
-                (within_settled 16 job_of_execution b.jobs (items b.executions) b.runs p (λ e. survives c.args.ending p e.assumes) (settled_execution p) (λ e. refl)),
-            (ringless_left (items b.holdings) p (items c.remove-job.new.self) c.remove-job.ensures.becomes b.ringless, tt),
-          ),
-        ),
-      ),
-    )
+    let p = c.args.place in
+    record {
+      limited = b.limited;
+      places = length-set b.jobs p None ∙ b.places;
+      holds = subst (Within 8 job_of_holding (set b.jobs p None)) (sym c.remove_job.ensures.becomes) (within_removed 8 job_of_holding b.jobs (items b.holdings) b.holds p);
+      runs = subst (Within 16 job_of_execution (set b.jobs p None)) (sym c.settle.ensures.becomes) (within_settled 16 job_of_execution b.jobs (items b.executions) b.runs p (λ e. survives c.args.ending p e.assumes) (settled_execution p) (λ e. refl));
+      ringless = ringless_left (items b.holdings) p (items c.remove_job.new.self) c.remove_job.ensures.becomes b.ringless;
+    }
 
 pub returns : goal.returns
 returns c = λ values written.
-    ended_is c.args.ending c.args.place written (view values c.args.self.now) (items c.remove-job.new.self) (items c.settle.new.self) (items c.settle-2.new.self)
-    c.remove-job.ensures.becomes c.settle.ensures.becomes c.settle-2.ensures.becomes
+    ended_is c.args.ending c.args.place written (view values c.args.self.now) (items c.remove_job.new.self) (items c.settle.new.self) (items c.settle-2.new.self)
+    c.remove_job.ensures.becomes c.settle.ensures.becomes c.settle-2.ensures.becomes

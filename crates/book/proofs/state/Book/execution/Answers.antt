@@ -13,4 +13,4 @@ returns-then-place-gt15 c =
     sym (ap (λ l. slice_get l c.args.n) (none_there 16 job_of_execution b.jobs (items b.executions) b.places b.runs c.args.place (omega arith)))
 
 pub returns : goal.returns
-returns c = c.nth-of.ensures ∙ ap (λ l. slice_get (keep (names c.args.place) l) c.args.n) c.in-use.ensures
+returns c = c.nth_of.ensures ∙ ap (λ l. slice_get (keep (names c.args.place) l) c.args.n) c.in_use.ensures

@@ -13,4 +13,4 @@ returns-then-place-gt15 c =
     sym (ap (λ l. slice_get l c.args.n) (none_there 8 job_of_holding b.jobs (items b.holdings) b.places b.holds c.args.place (omega arith)))
 
 pub returns : goal.returns
-returns c = c.nth-of.ensures ∙ ap (λ l. slice_get (keep (held_by c.args.place) l) c.args.n) c.in-use.ensures
+returns c = c.nth_of.ensures ∙ ap (λ l. slice_get (keep (held_by c.args.place) l) c.args.n) c.in_use.ensures

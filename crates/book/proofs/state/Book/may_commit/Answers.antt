@@ -12,23 +12,23 @@ use Rattle.book.proofs.Locking.{first_append}
 use Rattle.book.proofs.Places.{within_placed}
 use Rattle.book.proofs.state.Book.may_commit.Goals as goal
 
-pub returns-then-has-open : goal.returns-then-has-open
-returns-then-has-open c =
+pub returns-then-has_open : goal.returns-then-has_open
+returns-then-has_open c =
     let b = c.args.self.now in
     let m = view [] b in
     let p = c.args.place in
-    first_append (no_live_job m p) (commit_barred m p) c.in-ok--job.ensures.0
-    ∙ commit_open m p (sym (c.if-has-open.ensures ∙ ap (any (λ h. held_by p h && opened h.state)) c.in-use-holdings.ensures))
+    first_append (no_live_job m p) (commit_barred m p) c.in_ok-_job.ensures.0
+    ∙ commit_open m p (sym (c.if-has_open.ensures ∙ ap (any (λ h. held_by p h && opened h.state)) c.in_use-holdings.ensures))
 
-pub returns-then-not-is-empty : goal.returns-then-not-is-empty
-returns-then-not-is-empty c =
+pub returns-then-not-is_empty : goal.returns-then-not-is_empty
+returns-then-not-is_empty c =
     let b = c.args.self.now in
     let m = view [] b in
     let p = c.args.place in
     let hs = items b.holdings in
-    let w : c.waits-of.result.mask ≡ waits hs p = c.waits-of.ensures ∙ ap (λ l. placed (waits l p)) c.in-use-holdings.ensures ∙ waits_placed hs p (within_placed b.jobs hs b.places b.holds) in
-    first_append (no_live_job m p) (commit_barred m p) c.in-ok--job.ensures.0
-    ∙ commit_waits m p (sym (c.if-has-open.ensures ∙ ap (any (λ h. held_by p h && opened h.state)) c.in-use-holdings.ensures)) (sym (c.if-not-is-empty.ensures ∙ ap (λ n. eqb n 0) w))
+    let w : c.waits_of.result.mask ≡ waits hs p = c.waits_of.ensures ∙ ap (λ l. placed (waits l p)) c.in_use-holdings.ensures ∙ waits_placed hs p (within_placed b.jobs hs b.places b.holds) in
+    first_append (no_live_job m p) (commit_barred m p) c.in_ok-_job.ensures.0
+    ∙ commit_waits m p (sym (c.if-has_open.ensures ∙ ap (any (λ h. held_by p h && opened h.state)) c.in_use-holdings.ensures)) (sym (c.if-not-is_empty.ensures ∙ ap (λ n. eqb n 0) w))
 
 pub returns : goal.returns
 returns c =
@@ -36,8 +36,8 @@ returns c =
     let m = view [] b in
     let p = c.args.place in
     let hs = items b.holdings in
-    let w : c.waits-of.result.mask ≡ waits hs p = c.waits-of.ensures ∙ ap (λ l. placed (waits l p)) c.in-use-holdings.ensures ∙ waits_placed hs p (within_placed b.jobs hs b.places b.holds) in (
-      c.in-ok--job.ensures.0,
-      commit_free m p (sym (c.if-has-open.ensures ∙ ap (any (λ h. held_by p h && opened h.state)) c.in-use-holdings.ensures)) (sym (c.if-not-is-empty.ensures ∙ ap (λ n. eqb n 0) w)),
-      c.in-ok--job.ensures.2,
+    let w : c.waits_of.result.mask ≡ waits hs p = c.waits_of.ensures ∙ ap (λ l. placed (waits l p)) c.in_use-holdings.ensures ∙ waits_placed hs p (within_placed b.jobs hs b.places b.holds) in (
+      c.in_ok-_job.ensures.0,
+      commit_free m p (sym (c.if-has_open.ensures ∙ ap (any (λ h. held_by p h && opened h.state)) c.in_use-holdings.ensures)) (sym (c.if-not-is_empty.ensures ∙ ap (λ n. eqb n 0) w)),
+      c.in_ok-_job.ensures.2,
     )

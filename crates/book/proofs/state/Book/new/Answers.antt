@@ -5,11 +5,17 @@ use Rattle.protocol.specs.Model.{Model, new}
 use Rattle.book.proofs.New.{new_accepted, none_within, none_ringless, new_is}
 use Rattle.book.proofs.state.Book.new.Goals as goal
 
-pub invariant-of-result : goal.invariant-of-result
-invariant-of-result c =
+pub invariant_of-result : goal.invariant_of-result
+invariant_of-result c =
     let hs = items c.new.result in
     let es = items c.executions.result in
-    (omega arith, (refl, (none_within 8 job_of_holding (replicate 16 None) hs c.new.ensures.starts, (none_within 16 job_of_execution (replicate 16 None) es c.executions.ensures.starts, (none_ringless hs c.new.ensures.starts, tt)))))
+    record {
+      limited = omega arith;
+      places = refl;
+      holds = none_within 8 job_of_holding (replicate 16 None) hs c.new.ensures.starts;
+      runs = none_within 16 job_of_execution (replicate 16 None) es c.executions.ensures.starts;
+      ringless = none_ringless hs c.new.ensures.starts;
+    }
 
 pub returns : goal.returns
 returns c = (

@@ -31,8 +31,8 @@ loop-execution-preserved g c =
           let y : F (e ∷ []) ≡ f e ∷ [] = ap (map f) (keep_yes (names p) e (eq-eqb e.job p w.if-execution-place.true)) in
           let room =
           adding_room F (λ e. F (e ∷ [])) (more f p) now (F es) es i (c.loop-execution.invariant ∙ ap (λ l. l ++ F es) c.new-all.ensures.starts) no_execution c.loop-execution-test.true (f e) y in
-          let pushed = with_room 16 now (w.version-of.result ∷ []) (items w.push.new.self) w.push.result w.push.ensures.added (omega (arith, room, length-map (keep (names p) es) f, c.requires.1.1)) in
-          rw w.all-is (step (items w.push.new.self) (pushed ∙ ap (λ v. now ++ v ∷ []) w.version-of.ensures ∙ ap (λ l. now ++ l) (sym y)))
+          let pushed = with_room 16 now (w.version_of.result ∷ []) (items w.push.new.self) w.push.result w.push.ensures.added (omega (arith, room, length-map (keep (names p) es) f, c.requires.1.1)) in
+          rw w.all-is (step (items w.push.new.self) (pushed ∙ ap (λ v. now ++ v ∷ []) w.version_of.ensures ∙ ap (λ l. now ++ l) (sym y)))
       | else-execution-place w ↦
           let y : F (e ∷ []) ≡ [] = ap (map f) (keep_no (names p) e (ne_eqb e.job p w.if-execution-place.false)) in
           rw w.all-is (step now (sym (ap (λ l. now ++ l) y ∙ append-nil now)))
