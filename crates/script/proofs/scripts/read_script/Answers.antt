@@ -10,7 +10,7 @@ pub returns-in-Ok : goal.returns-in-Ok
 returns-in-Ok c =
     accepted c.args.script.now c.if-script-gt-LONGEST.false c.as_slice.result.now (vec_items c.in_ok-lines.lines) c.as_slice.ensures.value c.in_ok-lines.ensures
     (omega (arith, ltb-false)) c.first-item.result c.first-item.is c.as_slice-2.result.now c.as_slice-2.ensures.value
-    c.in-Ok.setup (vec_items c.in_ok-read_calls.field-0) _ refl c.in-Ok.ensures c.in_ok-read_calls.ensures
+    c.in-Ok.setup (vec_items c.in_ok-read_calls-in-Ok.field-0) _ refl c.in-Ok.ensures c.in_ok-read_calls-in-Ok.ensures
 
 pub returns : goal.returns
 returns c =
