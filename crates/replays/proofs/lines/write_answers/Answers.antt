@@ -10,8 +10,8 @@ loop-answer-preserved c =
     let now = string_bytes c.loop-answer.out in
     let whole = string_bytes c.args.out.now ++ lines_from answer_bytes 2 xs in (
       omega (arith, c.loop-answer.invariant.0),
-      line_more answer_bytes c.loop-answer.number xs c.loop-answer.answer-index now whole c.loop-answer.invariant.1 0 (string_bytes c.push-str.new.self) c.loop-answer-test.true
-          (c.in-ok-push-str.ensures.bytes ∙ ap (λ l. now ++ l) (c.as-str.ensures.value ∙ c.in-ok-line.ensures.bytes)),
+      line_more answer_bytes c.loop-answer.number xs c.loop-answer.answer-index now whole c.loop-answer.invariant.1 0 (string_bytes c.push_str.new.self) c.loop-answer-test.true
+          (c.in_ok-push_str.ensures.bytes ∙ ap (λ l. now ++ l) (c.as_str.ensures.value ∙ c.in_ok-line.ensures.bytes)),
     )
 
 pub returns : goal.returns

@@ -5,7 +5,7 @@ use Rattle.replays.proofs.Few.{few_executions}
 use Rattle.replays.proofs.Telling.{with_job, without_job}
 use Rattle.replays.proofs.Writing.{line_more, lines_done}
 use Rattle.replays.proofs.lines.write_jobs.Goals as goal
-use Rattle.replays.proofs.lines.write_jobs.Goals.{then-is-some+in-ok-line+in-ok-push-str, else-is-some}
+use Rattle.replays.proofs.lines.write_jobs.Goals.{then-is_some+in_ok-line+in_ok-push_str, else-is_some}
 
 pub loop-place-preserved : goal.loop-place-preserved
 loop-place-preserved c =
@@ -15,20 +15,20 @@ loop-place-preserved c =
     let now = string_bytes c.loop-place.out in
     let whole = string_bytes c.args.out.now ++ lines_from (place_bytes es) 0 b.jobs in
     let there : p < length b.jobs = omega (arith, b.places, c.loop-place-test.true) in
-    elim c.if-is-some.branch [
-      | then-is-some+in-ok-line+in-ok-push-str w ↦
+    elim c.if-is_some.branch [
+      | then-is_some+in_ok-line+in_ok-push_str w ↦
           rw w.out-is (
-          line_more (place_bytes es) p b.jobs p now whole c.loop-place.invariant None (string_bytes w.push-str.new.self) there
-          (w.in-ok-push-str.ensures.bytes
+          line_more (place_bytes es) p b.jobs p now whole c.loop-place.invariant None (string_bytes w.push_str.new.self) there
+          (w.in_ok-push_str.ensures.bytes
           ∙ ap (λ l. now ++ l)
-          (w.as-str.ensures.value ∙ w.in-ok-line.ensures.bytes
-          ∙ with_job es p _ (get_or b.jobs p None) (sym (c.is-some.ensures ∙ ap is_some c.job.ensures) ∙ w.if-is-some.true)
-          (omega (arith, w.execution-count-count.ensures, few_executions b p))))
+          (w.as_str.ensures.value ∙ w.in_ok-line.ensures.bytes
+          ∙ with_job es p _ (get_or b.jobs p None) (sym (c.is_some.ensures ∙ ap is_some c.job.ensures) ∙ w.if-is_some.true)
+          (omega (arith, w.execution_count-count.ensures, few_executions b p))))
           )
-      | else-is-some w ↦
+      | else-is_some w ↦
           rw w.out-is (
           line_more (place_bytes es) p b.jobs p now whole c.loop-place.invariant None now there
-          (without_job es p (get_or b.jobs p None) now (sym (c.is-some.ensures ∙ ap is_some c.job.ensures) ∙ w.if-is-some.false))
+          (without_job es p (get_or b.jobs p None) now (sym (c.is_some.ensures ∙ ap is_some c.job.ensures) ∙ w.if-is_some.false))
           )
     ]
 

@@ -1,7 +1,7 @@
 use Rattle.std.proofs.Common.{vec_items}
 use Rattle.replays.proofs.Merging.{call_more, call_skipped, calls_done}
 use Rattle.replays.proofs.readings.calls_of.Goals as goal
-use Rattle.replays.proofs.readings.calls_of.Goals.{in-Ok+in-ok-push, in-default}
+use Rattle.replays.proofs.readings.calls_of.Goals.{in-Ok+in_ok-push, in_default}
 
 pub loop-reading-preserved : goal.loop-reading-preserved
 loop-reading-preserved c =
@@ -9,8 +9,8 @@ loop-reading-preserved c =
     let i = c.loop-reading.reading-index in
     let now = vec_items c.loop-reading.calls in
     elim c.match-reading.branch [
-      | in-Ok+in-ok-push w ↦ rw w.calls-is (call_more rs i _ c.loop-reading-test.true now c.loop-reading.invariant _ (vec_items w.push.new.self) w.in-Ok.is w.in-ok-push.ensures.items)
-      | in-default w ↦ rw w.calls-is (call_skipped rs i _ c.loop-reading-test.true now c.loop-reading.invariant _ w.in-default.is)
+      | in-Ok+in_ok-push w ↦ rw w.calls-is (call_more rs i _ c.loop-reading-test.true now c.loop-reading.invariant _ (vec_items w.push.new.self) w.in-Ok.is w.in_ok-push.ensures.items)
+      | in_default w ↦ rw w.calls-is (call_skipped rs i _ c.loop-reading-test.true now c.loop-reading.invariant _ w.in_default.is)
     ]
 
 pub returns : goal.returns

@@ -14,10 +14,10 @@ loop-reading-preserved c =
     let after = vec_items c.push.new.self in
     let whole = merged rs told in
     let inv = c.loop-reading.invariant in
-    let pushed : after ≡ before ++ c.match-reading.number ∷ [] = c.in-ok-push.ensures.items in
+    let pushed : after ≡ before ++ c.match-reading.number ∷ [] = c.in_ok-push.ensures.items in
     elim c.match-reading.branch [
       | in-Ok w ↦
-          rw w.next-is (omega (arith, inv.0), merged_call rs i _ c.loop-reading-test.true before after whole told n inv.1 _ w.in-Ok.is (pushed ∙ ap (λ k. before ++ k ∷ []) (w.number-is ∙ w.answer-at-answer.ensures)))
+          rw w.next-is (omega (arith, inv.0), merged_call rs i _ c.loop-reading-test.true before after whole told n inv.1 _ w.in-Ok.is (pushed ∙ ap (λ k. before ++ k ∷ []) (w.number-is ∙ w.answer_at-answer.ensures)))
       | in-Err w ↦
           rw w.next-is (omega (arith, inv.0), merged_fault rs i _ c.loop-reading-test.true before after whole told n inv.1 _ w.in-Err.is (pushed ∙ ap (λ k. before ++ k ∷ []) (w.number-is ∙ w.number-number.ensures)))
     ]
