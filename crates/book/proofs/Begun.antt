@@ -1,11 +1,11 @@
 -- A book after a job began.
-use Rattle.std.proofs.Common.{◌≡◌, ℕ, ◌+◌, ◌<◌, ◌≤◌, List, [], ◌∷◌, ◌++◌, length, get_or, set, replicate, Some, None, Option, sym, refl, ap, ◌∙◌, subst, arith}
+use Rattle.std.proofs.Common.{◌≡◌, ℕ, ◌+◌, ◌<◌, ◌≤◌, List, [], ◌∷◌, ◌++◌, length, get_or, set, replicate, Some, None, Option, refl, ap, ◌∙◌, arith}
 use Rattle.std.proofs.lemmas.List.{length_push, length-set, get_or-set_same}
 use Rattle.terms.specs.declared.calls.Call.TheVariants.{Begin}
 use Rattle.terms.specs.Rule.{Rule}
 use Rattle.protocol.specs.declared.assumptions.Execution.{Execution}
 use Rattle.protocol.specs.declared.jobs.Job.{Job}
-use Rattle.protocol.specs.Begin.{begin_refusals, first_execution, after_begin}
+use Rattle.protocol.specs.Begin.{begin_refusals}
 use Rattle.protocol.specs.Assumptions.{assume}
 use Rattle.protocol.specs.Lists.{first}
 use Rattle.protocol.specs.Model.{Model}

@@ -1,5 +1,5 @@
 -- A place that is not there has no records.
-use Rattle.std.proofs.Common.{◌≡◌, ℕ, ◌≤◌, Bool, eqb, List, [], ◌∷◌, length, get_or, None, Option, sym, refl, ap, ◌∙◌, arith}
+use Rattle.std.proofs.Common.{◌≡◌, ℕ, ◌≤◌, eqb, List, [], ◌∷◌, length, None, Option, refl, ap, arith}
 use Rattle.std.proofs.lemmas.List.{get_or_past}
 use Rattle.protocol.specs.declared.jobs.Job.{Job}
 use Rattle.protocol.specs.Lists.{keep}

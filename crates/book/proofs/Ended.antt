@@ -1,8 +1,5 @@
 -- A book after a job ended.
-use Rattle.std.proofs.Common.{◌≡◌, ℕ, ◌+◌, ◌<◌, ◌≤◌, Bool, true, false, cond, not, ◌&&◌, eqb, ◌≢◌, ◌⊎◌, List, [], ◌∷◌, ◌++◌, map, length, get_or, set, Some, None, Option, sym, refl, ap, ◌∙◌, subst, inl, inr, arith}
-use Rattle.std.proofs.lemmas.List.{get_or-set_same, get_or-set_other}
-use Rattle.std.proofs.lemmas.Bool.{cases_eq, eq-eqb, ne_eqb, both_ways, and_parts, not-true}
-use Rattle.protocol.specs.declared.jobs.Job.{Job}
+use Rattle.std.proofs.Common.{◌≡◌, ℕ, not, ◌&&◌, eqb, List, map, set, None, refl, ap, ◌∙◌}
 use Rattle.terms.specs.declared.calls.Call.TheVariants.{Abort}
 use Rattle.protocol.specs.declared.jobs.Ending.{Ending}
 use Rattle.protocol.specs.declared.jobs.Ending.TheVariants.{Aborted}
@@ -15,8 +12,6 @@ use Rattle.protocol.specs.Model.{Model}
 use Rattle.protocol.specs.Settling.{settle, survives, settled_execution, settled_version}
 use Rattle.protocol.specs.Step.{answer, refusals, next}
 use Rattle.terms.specs.Rule.{Rule}
-use Rattle.tables.specs.Within.{Within, count, room}
-use Rattle.tables.proofs.Counts.{count_cons, count_keep}
 
 pub abort_answer : (r : Rule) (m : Model) (p : ℕ) → answer r m (Abort p) ≡ first (no_job m p)
 unfolding answer refusals

@@ -1,15 +1,14 @@
 -- Where a job runs, one that runs waits for none.
-use Rattle.std.proofs.Common.{◌≡◌, ℕ, suc, ◌<◌, ◌≤◌, Bool, true, false, ◌&&◌, eqb, ◌⊎◌, List, [], ◌∷◌, length, get_or, Some, None, Option, sym, refl, ap, ◌∙◌, subst, inl, inr, arith}
+use Rattle.std.proofs.Common.{◌≡◌, ℕ, suc, ◌<◌, ◌≤◌, true, false, eqb, List, [], ◌∷◌, length, get_or, Some, None, Option, sym, refl, ap, ◌∙◌, subst, inl, inr, arith}
 use Rattle.std.proofs.lemmas.List.{get_or_past}
 use Rattle.std.proofs.lemmas.Bool.{cases_lt, cases_Bool, eqb-true, eq-eqb, both_ways, false≢true, and_parts, and_from}
 use Rattle.protocol.specs.declared.holdings.Holding.{Holding}
 use Rattle.protocol.specs.declared.jobs.Job.{Job}
 use Rattle.protocol.specs.Holdings.{waits}
-use Rattle.protocol.specs.Lists.{is_some, keep, In}
+use Rattle.protocol.specs.Lists.{is_some, In}
 use Rattle.protocol.specs.Model.{Model, job_at}
 use Rattle.protocol.specs.Places.{has}
 use Rattle.protocol.specs.Ranks.{Acyclic, Ringless}
-use Rattle.protocol.specs.Waiting.{WaitsFor}
 use Rattle.protocol.proofs.Ranks.{free}
 use Rattle.protocol.proofs.Membership.{none_in}
 use Rattle.protocol.proofs.Waiting.{why_waits}

@@ -1,9 +1,8 @@
 -- A book after an image.
-use Rattle.std.proofs.Common.{◌≡◌, ℕ, suc, ◌+◌, ◌<◌, ◌≤◌, Bool, true, false, cond, not, ◌&&◌, ◌||◌, eqb, List, [], ◌∷◌, ◌++◌, map, length, get_or, drop, is_some, Some, None, Ok, Err, Option, Result, sym, refl, ap, ◌∙◌, subst, inl, inr, arith}
+use Rattle.std.proofs.Common.{◌≡◌, ℕ, suc, ◌<◌, ◌≤◌, Bool, true, false, cond, ◌&&◌, ◌||◌, eqb, List, [], ◌∷◌, ◌++◌, map, length, get_or, is_some, Some, None, Ok, Err, Option, Result, sym, refl, ap, ◌∙◌, inl, inr, arith}
 use Rattle.std.proofs.lemmas.Bool.{false≢true, cases_lt, le-ltb, lt-ltb}
 use Rattle.terms.specs.declared.calls.Call.TheVariants.{Image}
 use Rattle.protocol.specs.declared.holdings.Holding.{Holding}
-use Rattle.protocol.specs.declared.holdings.HoldingState.{HoldingState}
 use Rattle.protocol.specs.declared.jobs.Job.{Job}
 use Rattle.protocol.specs.declared.assumptions.Version.{Version}
 use Rattle.protocol.specs.Holdings.{position, holds, opened, turn}
@@ -16,7 +15,7 @@ use Rattle.protocol.specs.declared.refusals.Refusal.{Refusal}
 use Rattle.protocol.specs.declared.refusals.Refusal.TheVariants.{NotOpen}
 use Rattle.terms.specs.Objects.{value_at}
 use Rattle.terms.specs.Rule.{Rule}
-use Rattle.tables.specs.Within.{Within, count, room, job_of_holding}
+use Rattle.tables.specs.Within.{Within, count, job_of_holding}
 use Rattle.tables.proofs.Rooms.{within_map}
 
 -- an object that is held has a place among those that the job holds

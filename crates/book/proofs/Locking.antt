@@ -1,9 +1,8 @@
 -- The answer to a lock, from its three groups of tests.
-use Rattle.std.proofs.Common.{◌≡◌, ℕ, ◌<◌, ◌≤◌, Bool, true, false, not, eqb, ltb, leb, List, [], ◌∷◌, ◌++◌, length, Some, None, Option, sym, refl, ap, ◌∙◌, arith}
+use Rattle.std.proofs.Common.{◌≡◌, ℕ, ◌<◌, ◌≤◌, Bool, true, false, ltb, List, [], ◌∷◌, ◌++◌, length, Some, None, Option, sym, refl, ap, ◌∙◌, arith}
 use Rattle.std.proofs.lemmas.Bool.{lt-ltb, le-ltb, ltb-false, leb-false, ne_eqb, eq-eqb, not-false}
 use Rattle.terms.specs.declared.calls.Call.TheVariants.{Lock}
 use Rattle.terms.specs.declared.modes.Mode.{Mode}
-use Rattle.protocol.specs.declared.jobs.Job.{Job}
 use Rattle.protocol.specs.declared.refusals.Refusal.{Refusal}
 use Rattle.protocol.specs.declared.refusals.Refusal.TheVariants.{NoExecution, TooManyExecutions}
 use Rattle.protocol.specs.Holdings.{locked, would_ring}

@@ -1,10 +1,10 @@
 -- The pairs of a job's executions, one execution after another.
-use Rattle.std.proofs.Common.{◌≡◌, ℕ, ◌+◌, ◌<◌, Bool, true, false, cond, eqb, List, [], ◌∷◌, ◌++◌, map, length, get_or, drop, sym, refl, ap, ◌∙◌}
-use Rattle.std.proofs.lemmas.List.{append-nil, append_assoc, at_drop_more}
+use Rattle.std.proofs.Common.{◌≡◌, ℕ, Bool, true, false, cond, List, [], ◌∷◌, ◌++◌, map, sym, refl, ap, ◌∙◌}
+use Rattle.std.proofs.lemmas.List.{append-nil, append_assoc}
 use Rattle.std.proofs.lemmas.Bool.{eq-eqb, ne_eqb}
 use Rattle.protocol.specs.declared.assumptions.Execution.{Execution}
 use Rattle.protocol.specs.declared.assumptions.Offer.{Offer}
-use Rattle.protocol.specs.Lists.{keep, each, is_nil}
+use Rattle.protocol.specs.Lists.{keep, each}
 use Rattle.protocol.specs.Model.{names}
 use Rattle.protocol.specs.Pairing.{is_kept, pairs}
 use Rattle.book.proofs.Adding.{keep_cons}

@@ -1,8 +1,8 @@
 -- A book stays without a ring of waiting jobs.
-use Rattle.std.proofs.Common.{◌≡◌, ℕ, ◌<◌, Bool, false, not, eqb, List, [], ◌∷◌, ◌++◌, map, sym, subst}
+use Rattle.std.proofs.Common.{◌≡◌, ℕ, false, not, eqb, List, [], ◌∷◌, ◌++◌, map, sym, subst}
 use Rattle.protocol.specs.declared.holdings.Holding.{Holding}
 use Rattle.protocol.specs.Holdings.{would_ring, turn}
-use Rattle.protocol.specs.Lists.{keep, In}
+use Rattle.protocol.specs.Lists.{keep}
 use Rattle.protocol.specs.Ranks.{Acyclic, Ringless}
 use Rattle.protocol.specs.RingTest.{OfPlaces}
 use Rattle.protocol.proofs.Ranks.{acyclic_fewer, acyclic_push}

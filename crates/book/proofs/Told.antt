@@ -7,9 +7,8 @@ use Rattle.terms.specs.Rule.{Rule}
 use Rattle.protocol.specs.declared.refusals.Refusal.{Refusal}
 use Rattle.protocol.specs.History.{history_of}
 use Rattle.protocol.specs.Law.{Law}
-use Rattle.protocol.specs.Lists.{is_some}
-use Rattle.protocol.specs.Model.{Model, new, job_at}
-use Rattle.protocol.specs.Past.{Event, past}
+use Rattle.protocol.specs.Model.{Model, new}
+use Rattle.protocol.specs.Past.{past}
 use Rattle.protocol.specs.Step.{answer, step, run}
 use Rattle.protocol.specs.Waiting.{WaitsFor}
 use Rattle.protocol.proofs.HistoryBook.{history_laws}

@@ -1,11 +1,10 @@
 -- What a whole run promises: the law of the book, of the calls and the answers that they got, with the ready question's answer.
-use Rattle.std.specs.Prelude.{◌≡◌, ℕ, List, length, Some, None, vec_items, Option}
+use Rattle.std.specs.Prelude.{◌≡◌, ℕ, List, length, Some, None, vec_items}
 use Rattle.terms.specs.declared.calls.Call.{Call}
 use Rattle.terms.specs.Rule.{Rule}
 use Rattle.protocol.specs.History.{history_of}
 use Rattle.protocol.specs.Law.{Law}
 use Rattle.protocol.specs.Model.{Model, new, executions_of}
-use Rattle.protocol.specs.Past.{Event}
 use Rattle.protocol.specs.Lists.{first as first_of}
 use Rattle.protocol.specs.Step.{run, new_refusals}
 use Rattle.book.specs.declared.outcome.Run.{Run}

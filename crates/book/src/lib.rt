@@ -1,4 +1,6 @@
 // The book of jobs.
+#![tactic(auto)]
+
 mod making;
 mod meeting;
 mod offering;

@@ -1,4 +1,6 @@
 // Cuts a script into lines and lines into fields, and reads the number that a field writes.
+#![tactic(auto)]
+
 pub mod cuts;
 pub mod laws;
 pub mod numbers;

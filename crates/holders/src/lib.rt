@@ -1,4 +1,6 @@
 // Who holds what, who makes what, who waits for whom, and the ring test: questions about holdings in the order of locking.
+#![tactic(auto)]
+
 mod gathering;
 pub mod holders;
 pub mod imaging;

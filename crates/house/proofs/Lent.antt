@@ -1,7 +1,7 @@
 -- The laws of the loan rule.
-use Rattle.std.proofs.Common.{◌≡◌, ℕ, ◌+◌, ◌-◌, ◌*◌, ◌/◌, ◌%◌, ◌^◌, ◌<◌, ◌≤◌, max, eqb, ◌⊎◌, List, [], ◌∷◌, sym, refl, ap, ◌∙◌, inl, inr, arith}
+use Rattle.std.proofs.Common.{◌≡◌, ℕ, ◌^◌, ◌<◌, ◌≤◌, max, eqb, List, [], ◌∷◌, ap, inl, inr, arith}
 use Rattle.std.proofs.lemmas.Bool.{ne_eqb, cond-false}
-use Rattle.house.specs.Loan.{loan_rule, team, due_day, loan}
+use Rattle.house.specs.Loan.{loan_rule, team, due_day}
 use Rattle.house.specs.Work.{Lock, worked}
 use Rattle.house.specs.LoanLaws.{KeepsLent, KeepsOthers, KeepsTeam, Met, NeverSooner, GivesWorkingDay}
 

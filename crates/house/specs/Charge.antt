@@ -1,5 +1,5 @@
 -- The charge rule: a value is units of charge.
-use Rattle.std.specs.Prelude.{ℕ, ◌+◌, ◌-◌, ◌/◌, ◌^◌, min, Bool, cond, is_some, Some, None, Option, ◌==◌}
+use Rattle.std.specs.Prelude.{ℕ, ◌+◌, ◌-◌, ◌/◌, ◌^◌, min, cond, is_some, Some, None, Option, ◌==◌}
 use Rattle.terms.specs.Rule.{Rule}
 use Rattle.terms.specs.declared.modes.Mode.{Mode}
 use Rattle.terms.specs.declared.modes.Mode.TheVariants.{Read, Write}

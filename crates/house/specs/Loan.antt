@@ -1,6 +1,6 @@
 -- The loan rule: a value is the team that has a pack, and the day on which it is due.
 -- Team 0 is the shelf. Day 0 is a loan without a due day.
-use Rattle.std.specs.Prelude.{ℕ, ◌+◌, ◌*◌, ◌/◌, ◌%◌, ◌^◌, max, Bool, cond, is_some, Some, None, Option, ◌==◌}
+use Rattle.std.specs.Prelude.{ℕ, ◌+◌, ◌*◌, ◌/◌, ◌%◌, ◌^◌, max, cond, is_some, Some, None, Option, ◌==◌}
 use Rattle.terms.specs.Rule.{Rule}
 use Rattle.house.specs.declared.loans.LoanKind.{LoanKind}
 use Rattle.house.specs.declared.loans.LoanKind.TheVariants.{Lend, Return, Extend}

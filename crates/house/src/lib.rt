@@ -1,4 +1,6 @@
 // The two job rules of the house.
+#![tactic(auto)]
+
 pub mod charges;
 pub mod draws;
 pub mod laws;

@@ -1,3 +1,5 @@
+#![tactic(auto)]
+
 // Runs the house rules, the stores and the planner on many cases.
 #[cfg(test)]
 mod cases;

@@ -1,11 +1,11 @@
 -- The lines of the plan sheet.
-use Rattle.std.proofs.Common.{◌≡◌, ℕ, ◌+◌, ◌-◌, ◌/◌, ◌^◌, ◌<◌, ◌≤◌, min, List, [], ◌∷◌, ◌++◌, map, length, get_or, take, set, sym, refl, ap, ◌∙◌, arith}
+use Rattle.std.proofs.Common.{◌≡◌, ℕ, ◌+◌, ◌-◌, ◌/◌, ◌^◌, ◌<◌, ◌≤◌, min, List, [], ◌∷◌, ◌++◌, length, get_or, take, set, sym, refl, ap, ◌∙◌, arith}
 use Rattle.std.proofs.lemmas.List.{take_more, take_more_set, take_all, get_or-map}
 use Rattle.house.specs.declared.draws.Row.{Row}
 use Rattle.house.specs.Draw.{draw, draw_sheet}
 use Rattle.house.specs.Charge.{charge_rule}
 use Rattle.house.specs.ChargeLaws.{total_read}
-use Rattle.house.specs.Work.{work_of, reads_from}
+use Rattle.house.specs.Work.{reads_from}
 use Rattle.house.proofs.Charged.{tells_hours}
 use Rattle.planner.specs.declared.plans.Line.{Line}
 use Rattle.planner.specs.Plan.{line, total, sheet_by_rule, sheet_by_total}

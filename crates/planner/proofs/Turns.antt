@@ -1,7 +1,6 @@
 -- One line more of the packs.
-use Rattle.std.proofs.Common.{◌≡◌, ℕ, ◌+◌, ◌<◌, ◌≤◌, Bool, true, false, cond, ltb, List, [], ◌∷◌, ◌++◌, length, Some, None, Ok, Err, Option, Result, sym, refl, ap, ◌∙◌, arith}
+use Rattle.std.proofs.Common.{◌≡◌, ℕ, ◌+◌, ◌<◌, ◌≤◌, ltb, List, [], ◌∷◌, ◌++◌, length, Some, None, Ok, Err, sym, refl, ap, ◌∙◌, arith}
 use Rattle.std.proofs.lemmas.Bool.{lt-ltb, le-ltb, cond-true, cond-false}
-use Rattle.planner.specs.declared.faults.Fault.{Fault}
 use Rattle.planner.specs.declared.faults.Fault.TheVariants.{NoNumber, TooMany}
 use Rattle.planner.specs.Numbers.{number_of}
 use Rattle.planner.specs.Packs.{by_number, before_feed, after_feed, lines_of, packs_after}

@@ -1,4 +1,6 @@
 // Reads the charges of packs, and plans for how long they last.
+#![tactic(auto)]
+
 pub mod faults;
 pub mod laws;
 pub mod numbers;

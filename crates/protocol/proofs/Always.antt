@@ -5,7 +5,7 @@ use Rattle.terms.specs.Rule.{Rule}
 use Rattle.protocol.specs.declared.refusals.Refusal.{Refusal}
 use Rattle.protocol.specs.History.{History, history_one, history, blank}
 use Rattle.protocol.specs.Model.{Model, new}
-use Rattle.protocol.specs.Past.{Event, past}
+use Rattle.protocol.specs.Past.{past}
 use Rattle.protocol.specs.PlainRun.{Plain, plain_one}
 use Rattle.protocol.specs.Step.{answer, next, step, run}
 use Rattle.protocol.proofs.Invariant.{Invariant, invariant_new, invariant_next}

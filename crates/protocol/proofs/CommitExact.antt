@@ -1,25 +1,23 @@
 -- A job that commits has one execution and one version for each turned object, and these values are written.
-use Rattle.std.proofs.Common.{◌≡◌, ℕ, ◌<◌, Bool, true, false, ◌&&◌, eqb, ◌⊎◌, List, [], ◌∷◌, length, get_or, None, sym, refl, ap, ◌∙◌, subst, inl, inr, arith}
+use Rattle.std.proofs.Common.{◌≡◌, ℕ, ◌<◌, Bool, true, false, ◌&&◌, eqb, List, [], ◌∷◌, length, get_or, sym, refl, ap, ◌∙◌, subst, inl, inr}
 use Rattle.std.proofs.lemmas.Bool.{cases_Bool, eqb-true, eq-eqb, and_parts, and_from}
 use Rattle.terms.specs.declared.calls.Call.TheVariants.{Commit}
 use Rattle.terms.specs.Rule.{Rule}
-use Rattle.protocol.specs.declared.assumptions.Assumption.{Assumption}
 use Rattle.protocol.specs.declared.assumptions.Execution.{Execution}
 use Rattle.protocol.specs.declared.assumptions.Version.{Version}
 use Rattle.protocol.specs.declared.jobs.Ending.TheVariants.{Committed}
-use Rattle.protocol.specs.Assumptions.{commits_of, aborts_of}
-use Rattle.protocol.specs.CommitLaws.{versions_by, OneExecution, OneVersion, Committing, CommitLaws}
+use Rattle.protocol.specs.CommitLaws.{versions_by, OneExecution, Committing, CommitLaws}
 use Rattle.protocol.specs.Ending.{written}
 use Rattle.protocol.specs.Holdings.{waits}
-use Rattle.protocol.specs.Lists.{keep, In, Pairs}
+use Rattle.protocol.specs.Lists.{In, Pairs}
 use Rattle.protocol.specs.Model.{Model, new, executions_of, names}
 use Rattle.protocol.specs.PairingLaws.{Makes}
 use Rattle.protocol.specs.Places.{has}
 use Rattle.protocol.specs.Settling.{settle}
-use Rattle.protocol.specs.Step.{answer, next, step, run}
+use Rattle.protocol.specs.Step.{next, run}
 use Rattle.protocol.proofs.Accepted.{Commits, commit_accepted}
 use Rattle.protocol.proofs.Always.{Lawful, lawful, accepted_step}
-use Rattle.protocol.proofs.Chains.{CommitIn, AbortIn, AssumedIn, Conflict, waits_none_assumes_none, waits_none_assumes_itself}
+use Rattle.protocol.proofs.Chains.{AbortIn, AssumedIn, waits_none_assumes_none, waits_none_assumes_itself}
 use Rattle.protocol.proofs.Consistent.{ExecutionsApart, VersionsApart}
 use Rattle.protocol.proofs.Lists.{in_keep, keep_in, pairs_keep}
 use Rattle.protocol.proofs.Writing.{made_is, written_other, written_same, length_written}

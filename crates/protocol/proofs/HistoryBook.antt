@@ -1,8 +1,7 @@
 -- The book and its history agree on holdings and running jobs.
-use Rattle.std.proofs.Common.{◌≡◌, ℕ, List, [], sym, ap, ◌∙◌, subst}
+use Rattle.std.proofs.Common.{ℕ, List, [], ◌∙◌, subst}
 use Rattle.terms.specs.declared.calls.Call.{Call}
 use Rattle.terms.specs.Rule.{Rule}
-use Rattle.protocol.specs.declared.holdings.Holding.{Holding}
 use Rattle.protocol.specs.History.{history_of, blank}
 use Rattle.protocol.specs.HistoryLaws.{HistoryLaws}
 use Rattle.protocol.specs.Lists.{In}

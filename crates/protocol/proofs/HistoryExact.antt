@@ -1,14 +1,14 @@
 -- Who holds and who runs at the end of a past.
-use Rattle.std.proofs.Common.{◌≡◌, ℕ, suc, ◌+◌, ◌<◌, Bool, true, false, cond, not, ◌&&◌, ◌||◌, eqb, ◌⊎◌, ◌↔◌, List, [], ◌∷◌, ◌++◌, map, length, Some, None, Option, sym, refl, ap, ◌∙◌, subst, inl, inr, arith}
-use Rattle.std.proofs.lemmas.Bool.{true≢false, false≢true, both_ways, eqb-true, eq-eqb, or_parts}
+use Rattle.std.proofs.Common.{◌≡◌, ℕ, ◌+◌, Bool, true, false, cond, ◌||◌, eqb, ◌⊎◌, ◌↔◌, List, [], ◌∷◌, ◌++◌, Some, None, Option, sym, refl, ap, ◌∙◌, subst, inl, inr, arith}
+use Rattle.std.proofs.lemmas.Bool.{true≢false, false≢true, eqb-true, eq-eqb, or_parts}
 use Rattle.terms.specs.declared.calls.Call.{Call}
 use Rattle.terms.specs.declared.calls.Call.TheVariants.{Begin, Lock, Image, Commit, Abort}
 use Rattle.protocol.specs.declared.holdings.Holding.{Holding}
 use Rattle.protocol.specs.declared.refusals.Refusal.{Refusal}
 use Rattle.protocol.specs.History.{History, history_one, history, history_of, blank}
-use Rattle.protocol.specs.HistoryLaws.{accepted, begun_at, imaged_at, ended_at, begins_any, begins_in, Held, Running, remains, starts, left}
-use Rattle.protocol.specs.Holdings.{locked, begins, turn_state}
-use Rattle.protocol.specs.Lists.{keep, any, each, In}
+use Rattle.protocol.specs.HistoryLaws.{accepted, begun_at, imaged_at, ended_at, begins_in, Held, Running, remains, starts, left}
+use Rattle.protocol.specs.Holdings.{locked, turn_state}
+use Rattle.protocol.specs.Lists.{any, each, In}
 use Rattle.protocol.specs.Past.{Event}
 use Rattle.protocol.proofs.HistoryReads.{event, listed}
 use Rattle.protocol.proofs.Lists.{append_left, append_right, append_cases}

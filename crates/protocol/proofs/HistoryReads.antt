@@ -1,7 +1,5 @@
 -- The history's holdings and running jobs, read off the past.
-use Rattle.std.proofs.Common.{◌≡◌, ℕ, suc, ◌+◌, Bool, true, false, cond, not, ◌&&◌, ◌||◌, eqb, ◌⊎◌, ◌↔◌, List, [], ◌∷◌, ◌++◌, map, length, Some, None, Option, sym, refl, ap, ◌∙◌, subst, ap₂, inl, inr, append_assoc, append-nil, arith}
-use Rattle.std.proofs.lemmas.Bool.{false≢true, both_ways, cases_Bool, eqb-true, eq-eqb, or_parts}
-use Rattle.terms.specs.declared.modes.Mode.{Mode}
+use Rattle.std.proofs.Common.{◌≡◌, Bool, true, false, cond, not, ◌&&◌, ◌||◌, eqb, List, [], ◌∷◌, ◌++◌, map, Some, None, Option, sym, refl, ap, ◌∙◌, ap₂, append_assoc, append-nil}
 use Rattle.terms.specs.declared.calls.Call.{Call}
 use Rattle.terms.specs.declared.calls.Call.TheVariants.{Begin, Lock, Image, Commit, Abort}
 use Rattle.protocol.specs.declared.holdings.HoldingState.{HoldingState}
@@ -9,11 +7,10 @@ use Rattle.protocol.specs.declared.holdings.HoldingState.TheVariants.{Reading, O
 use Rattle.protocol.specs.declared.holdings.Holding.{Holding}
 use Rattle.protocol.specs.declared.refusals.Refusal.{Refusal}
 use Rattle.protocol.specs.History.{History, history_one, history, history_of, blank}
-use Rattle.protocol.specs.HistoryLaws.{accepted, is_begin, is_image, is_end, begun_at, imaged_at, ended_at, begins_any, begins_in, Held, Running, remains, starts, left}
-use Rattle.protocol.specs.Holdings.{begins, locked, turn, turn_state}
-use Rattle.protocol.specs.Lists.{keep, any, each, In}
+use Rattle.protocol.specs.HistoryLaws.{accepted, imaged_at, ended_at, remains, starts, left}
+use Rattle.protocol.specs.Holdings.{locked, turn, turn_state}
+use Rattle.protocol.specs.Lists.{keep, any, each}
 use Rattle.protocol.specs.Past.{Event}
-use Rattle.protocol.proofs.Lists.{append_left, append_right, append_cases}
 
 -- ---- lists of lists
 module _ {A B : Type 0} where

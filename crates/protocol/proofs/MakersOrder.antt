@@ -1,5 +1,5 @@
 -- The versions of an object stand in the order in which their makers locked it.
-use Rattle.std.proofs.Common.{◌≡◌, ℕ, Bool, true, false, not, ◌&&◌, ◌||◌, eqb, ◌⊎◌, List, [], ◌∷◌, ◌++◌, map, get_or, None, sym, refl, ap, ◌∙◌, subst, inl, inr}
+use Rattle.std.proofs.Common.{◌≡◌, ℕ, not, ◌&&◌, ◌||◌, eqb, List, [], ◌∷◌, ◌++◌, map, None, sym, refl, ap, ◌∙◌, inl, inr}
 use Rattle.std.proofs.lemmas.Bool.{eqb-true, eqb-false, eq-eqb, ne_eqb, not-true, and_parts, and_from}
 use Rattle.terms.specs.declared.calls.Call.{Call}
 use Rattle.terms.specs.declared.calls.Call.TheVariants.{Begin, Lock, Image, Commit, Abort}
@@ -9,22 +9,22 @@ use Rattle.protocol.specs.declared.assumptions.Version.{Version}
 use Rattle.protocol.specs.declared.holdings.Holding.{Holding}
 use Rattle.protocol.specs.declared.jobs.Ending.{Ending}
 use Rattle.protocol.specs.declared.jobs.Ending.TheVariants.{Committed, Aborted}
-use Rattle.protocol.specs.Assumptions.{commits_of, aborts_of}
+use Rattle.protocol.specs.Assumptions.{commits_of}
 use Rattle.protocol.specs.Ending.{written}
-use Rattle.protocol.specs.History.{History, blank}
-use Rattle.protocol.specs.Holdings.{turned, opened, turn, position}
+use Rattle.protocol.specs.History.{blank}
+use Rattle.protocol.specs.Holdings.{turn, position}
 use Rattle.protocol.specs.Image.{version_by}
-use Rattle.protocol.specs.Lists.{keep, In, Behind}
+use Rattle.protocol.specs.Lists.{In, Behind}
 use Rattle.protocol.specs.Model.{Model, new, job_at, executions_of, names}
-use Rattle.protocol.specs.Places.{has, single, join}
+use Rattle.protocol.specs.Places.{has, single}
 use Rattle.protocol.specs.Settling.{survives, settled_version, settle}
-use Rattle.protocol.specs.Step.{answer, next, step, run}
+use Rattle.protocol.specs.Step.{answer, next, run}
 use Rattle.protocol.specs.VersionOrder.{LockedBefore, MakesVersion, EachToEach, VersionOrder}
 use Rattle.protocol.proofs.Accepted.{Images, image_accepted}
 use Rattle.protocol.proofs.Always.{Lawful, lawful_next, always, accepted_step}
 use Rattle.protocol.proofs.Invariant.{invariant_new}
 use Rattle.protocol.proofs.ListOrder.{append_behind}
-use Rattle.protocol.proofs.Lists.{in_keep, in_map, map_in, behind_in, behind_two, behind_append, in_keep_behind, keep_behind, in_map_behind, map_behind}
+use Rattle.protocol.proofs.Lists.{in_keep, in_map, behind_in, behind_two, behind_append, in_keep_behind, keep_behind, in_map_behind, map_behind}
 use Rattle.protocol.proofs.SetDigits.{has_join, has_single}
 use Rattle.protocol.proofs.WellFormed.{WellFormed}
 use Rattle.protocol.proofs.HoldingStates.{turned_turn, open_turns}

@@ -1,28 +1,27 @@
 -- What an object offers, and which executions a lock leaves.
-use Rattle.std.proofs.Common.{◌≡◌, ℕ, ◌+◌, ◌≤◌, Bool, true, false, cond, not, ◌&&◌, ◌||◌, eqb, leb, ◌⊎◌, ◌↔◌, List, [], ◌∷◌, ◌++◌, map, length, set, None, sym, refl, ap, ◌∙◌, subst, ap₂, inl, inr, append-nil, arith}
-use Rattle.std.proofs.lemmas.Bool.{true≢false, both_ways, cases_Bool, eqb-true, eq-eqb, ne_eqb, not-true, and_parts, and_from, leb-true, le-leb}
+use Rattle.std.proofs.Common.{◌≡◌, ℕ, ◌+◌, true, not, ◌⊎◌, ◌↔◌, List, ◌++◌, map, length, sym, refl, ap, ◌∙◌, subst, ap₂, inl, inr, append-nil}
+use Rattle.std.proofs.lemmas.Bool.{eqb-true, eq-eqb, ne_eqb, not-true, and_parts, and_from, leb-true, le-leb}
 use Rattle.terms.specs.declared.calls.Call.TheVariants.{Lock}
 use Rattle.terms.specs.declared.modes.Mode.{Mode}
 use Rattle.terms.specs.Rule.{Rule}
-use Rattle.protocol.specs.declared.assumptions.Assumption.{Assumption}
 use Rattle.protocol.specs.declared.assumptions.Execution.{Execution}
 use Rattle.protocol.specs.declared.assumptions.Offer.{Offer}
 use Rattle.protocol.specs.declared.assumptions.Version.{Version}
 use Rattle.protocol.specs.declared.holdings.Holding.{Holding}
 use Rattle.protocol.specs.Assumptions.{commits_of, aborts_of}
-use Rattle.protocol.specs.Holdings.{turned, makers, later_makers}
+use Rattle.protocol.specs.Holdings.{makers, later_makers}
 use Rattle.protocol.specs.Lists.{keep, each, In, Behind}
-use Rattle.protocol.specs.Model.{Model, job_at, kind_of, argument_of, holding_count, executions_of, names}
-use Rattle.protocol.specs.Pairing.{offer, stored_offer, offers, pair, pairing, is_kept, pairs, kept_pairs}
+use Rattle.protocol.specs.Model.{Model, executions_of, names}
+use Rattle.protocol.specs.Pairing.{offer, offers, pairing, is_kept, kept_pairs}
 use Rattle.protocol.specs.PairingLaws.{Makes, MakesLater, OfferLaws, newly, Meets, Stays, LockLaws, PairingLaws}
-use Rattle.protocol.specs.Places.{has, join, without, disjoint, size}
+use Rattle.protocol.specs.Places.{has, join, without, size}
 use Rattle.protocol.specs.SetLaws.{places}
-use Rattle.protocol.specs.Step.{answer, next, step}
+use Rattle.protocol.specs.Step.{next}
 use Rattle.protocol.proofs.Always.{accepted_step}
 use Rattle.protocol.proofs.SetSizes.{apart_disjoint}
 use Rattle.protocol.proofs.ListOrder.{same_tests, keep_append, keep_each, keep_all, keep_none, keep_twice, each_outer, each_inner, in_each}
 use Rattle.protocol.proofs.Lists.{in_keep, keep_in, in_map, map_in, each_in, behind_in, keep_behind, map_behind}
-use Rattle.protocol.proofs.Makers.{Maker, makers_why, why_makers, later_why, why_later}
+use Rattle.protocol.proofs.Makers.{makers_why, why_makers, later_why, why_later}
 use Rattle.protocol.proofs.SetDigits.{has_zero, has_join, has_without, disjoint_apart}
 use Rattle.protocol.proofs.SetLaws.{same_members, new_in, size_counts}
 use Rattle.protocol.proofs.Membership.{join_left, join_right, join_cases}

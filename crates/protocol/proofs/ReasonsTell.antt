@@ -1,7 +1,7 @@
 -- Each test of a refusal passes exactly when its reason holds.
-use Rattle.std.proofs.Common.{◌≡◌, ℕ, zero, suc, ◌+◌, ◌*◌, ◌/◌, ◌%◌, ◌^◌, ◌<◌, ◌≤◌, Bool, true, false, not, ◌&&◌, ◌||◌, eqb, ltb, leb, ◌⊎◌, ◌↔◌, List, [], ◌∷◌, ◌++◌, length, sym, refl, ap, ◌∙◌, subst, inl, inr, pow-suc, arith}
+use Rattle.std.proofs.Common.{◌≡◌, ℕ, zero, suc, ◌+◌, ◌/◌, ◌%◌, ◌^◌, ◌<◌, ◌≤◌, Bool, true, not, ◌&&◌, ◌||◌, eqb, ltb, leb, ◌⊎◌, ◌↔◌, List, [], ◌∷◌, length, refl, ap, ◌∙◌, subst, inl, inr, pow-suc, arith}
 use lib.Arith.{lt-one}
-use Rattle.std.proofs.lemmas.Bool.{true≢false, false≢true, both_ways, cases_Bool, not-true, ltb-true, lt-ltb, leb-true, le-leb, eqb-true, eq-eqb, ne_eqb, eqb-false, and_parts, and_from, or_cases, or_left, or_right}
+use Rattle.std.proofs.lemmas.Bool.{false≢true, both_ways, cases_Bool, not-true, ltb-true, lt-ltb, leb-true, le-leb, eqb-true, eq-eqb, ne_eqb, eqb-false, and_parts, and_from, or_cases, or_left, or_right}
 use Rattle.terms.specs.declared.calls.Call.{Call}
 use Rattle.terms.specs.declared.calls.Call.TheVariants.{Begin, Lock, Image, Commit, Abort}
 use Rattle.terms.specs.Rule.{Rule}
@@ -9,7 +9,7 @@ use Rattle.protocol.specs.declared.holdings.HoldingState.{HoldingState}
 use Rattle.protocol.specs.declared.holdings.HoldingState.TheVariants.{Reading, Open, Turned}
 use Rattle.protocol.specs.declared.holdings.Holding.{Holding}
 use Rattle.protocol.specs.Begin.{is_known}
-use Rattle.protocol.specs.Holdings.{opened, holds, held_by, locked, waits, would_ring}
+use Rattle.protocol.specs.Holdings.{opened, holds, held_by, locked, waits}
 use Rattle.protocol.specs.Lists.{any, is_nil, In}
 use Rattle.protocol.specs.Model.{Model, new, executions_of, holding_count}
 use Rattle.protocol.specs.Pairing.{kept_pairs}
@@ -17,7 +17,7 @@ use Rattle.protocol.specs.Places.{has}
 use Rattle.protocol.specs.Reasons.{ReasonLaws, Tells, reasons}
 use Rattle.protocol.specs.RingTest.{NoRing, OfPlaces}
 use Rattle.protocol.specs.Step.{refusals, run}
-use Rattle.protocol.specs.Waiting.{WaitsFor, WaitsThrough}
+use Rattle.protocol.specs.Waiting.{WaitsFor}
 use Rattle.protocol.proofs.Lists.{any_in, in_any}
 use Rattle.protocol.proofs.SetDigits.{Digit, d0, d1, digit_of, has_suc, has_first}
 use Rattle.protocol.proofs.RingTest.{exact, kept}

@@ -1,13 +1,13 @@
 -- Who comes to rely on whom by one accepted call.
-use Rattle.std.proofs.Common.{◌≡◌, ℕ, Bool, true, false, not, ◌&&◌, eqb, ◌⊎◌, ◌↔◌, List, [], ◌∷◌, ◌++◌, map, sym, refl, ap, ◌∙◌, subst, inl, inr}
+use Rattle.std.proofs.Common.{◌≡◌, ℕ, Bool, true, not, ◌&&◌, eqb, ◌⊎◌, ◌↔◌, List, [], ◌∷◌, sym, refl, ap, ◌∙◌, subst, inl, inr}
 use Rattle.std.proofs.lemmas.Bool.{eqb-true, eqb-false, eq-eqb, ne_eqb, not-true, and_parts, and_from}
-use Rattle.terms.specs.declared.calls.Call.TheVariants.{Lock, Commit, Abort}
+use Rattle.terms.specs.declared.calls.Call.TheVariants.{Lock}
 use Rattle.terms.specs.declared.modes.Mode.{Mode}
 use Rattle.protocol.specs.declared.holdings.Holding.{Holding}
 use Rattle.protocol.specs.declared.jobs.Ending.{Ending}
 use Rattle.protocol.specs.History.{History, Rely, Ended, history_one, relies_on, has_ended, gains, ends}
 use Rattle.protocol.specs.Holdings.{makes}
-use Rattle.protocol.specs.Lists.{keep, any, each, In}
+use Rattle.protocol.specs.Lists.{keep, each, In}
 use Rattle.protocol.specs.PairingLaws.{Makes}
 use Rattle.protocol.specs.RelyingLaws.{ComesToRely, RelyingLaws}
 use Rattle.protocol.proofs.ListOrder.{in_each}

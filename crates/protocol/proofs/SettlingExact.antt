@@ -1,10 +1,8 @@
 -- Settling leaves exactly what it should.
-use Rattle.std.proofs.Common.{◌≡◌, ℕ, ◌<◌, ◌≤◌, Bool, true, false, cond, not, ◌&&◌, eqb, ◌⊎◌, ◌↔◌, List, [], ◌∷◌, map, length, get_or, set, Some, None, Option, sym, refl, ap, ◌∙◌, subst, inl, inr, arith, length-set, get_or-set_other, get_or-set_same}
+use Rattle.std.proofs.Common.{◌≡◌, ℕ, Bool, true, not, ◌&&◌, eqb, ◌↔◌, List, [], ◌∷◌, map, length, get_or, set, None, Option, sym, refl, ap, ◌∙◌, subst, inl, inr, arith, length-set, get_or-set_other, get_or-set_same}
 use lib.ListN.{get_or-eq_default}
 use Rattle.std.proofs.lemmas.Bool.{both_ways, cases_lt, cases_Bool, eqb-false, ne_eqb, and_parts, and_from, not-true}
-use Rattle.terms.specs.declared.calls.Call.{Call}
 use Rattle.terms.specs.declared.calls.Call.TheVariants.{Commit, Abort}
-use Rattle.terms.specs.Rule.{Rule}
 use Rattle.protocol.specs.declared.assumptions.Assumption.{Assumption}
 use Rattle.protocol.specs.declared.assumptions.Execution.{Execution}
 use Rattle.protocol.specs.declared.assumptions.Version.{Version}
@@ -12,14 +10,13 @@ use Rattle.protocol.specs.declared.holdings.Holding.{Holding}
 use Rattle.protocol.specs.declared.jobs.Ending.{Ending}
 use Rattle.protocol.specs.declared.jobs.Ending.TheVariants.{Committed, Aborted}
 use Rattle.protocol.specs.declared.jobs.Job.{Job}
-use Rattle.protocol.specs.declared.refusals.Refusal.{Refusal}
 use Rattle.protocol.specs.Assumptions.{commits_of, aborts_of}
 use Rattle.protocol.specs.Lists.{keep, In, Behind}
-use Rattle.protocol.specs.Model.{Model, job_at}
+use Rattle.protocol.specs.Model.{Model}
 use Rattle.protocol.specs.Places.{has, single, without}
 use Rattle.protocol.specs.Settling.{denied, survives, settled, settled_execution, settled_version, settle}
 use Rattle.protocol.specs.SettlingLaws.{TookOther, TakenOut, LeftExecution, LeftVersion, LeftHolding, Leaves, Settled, SettlingLaws}
-use Rattle.protocol.specs.Step.{answer, next, step}
+use Rattle.protocol.specs.Step.{next}
 use Rattle.protocol.proofs.Always.{accepted_step}
 use Rattle.protocol.proofs.Lists.{in_keep, keep_in, in_map, map_in, in_keep_behind, keep_behind, in_map_behind, map_behind}
 use Rattle.protocol.proofs.SetDigits.{has_without, has_single}

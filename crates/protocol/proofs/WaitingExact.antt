@@ -1,16 +1,10 @@
 -- Who waits for whom.
-use Rattle.std.proofs.Common.{◌≡◌, ℕ, Bool, true, false, not, ◌&&◌, eqb, ◌↔◌, List, None, sym, refl, ap, ◌∙◌, subst, arith}
+use Rattle.std.proofs.Common.{◌≡◌, ℕ, true, not, ◌&&◌, eqb, ◌↔◌, refl, subst, arith}
 use Rattle.std.proofs.lemmas.Bool.{false≢true, eqb-true, eq-eqb, and_parts, and_from}
-use Rattle.terms.specs.declared.calls.Call.TheVariants.{Commit}
-use Rattle.terms.specs.Rule.{Rule}
 use Rattle.protocol.specs.declared.holdings.HoldingState.{HoldingState}
 use Rattle.protocol.specs.declared.holdings.HoldingState.TheVariants.{Reading, Open, Turned}
-use Rattle.protocol.specs.declared.holdings.Holding.{Holding}
-use Rattle.protocol.specs.Holdings.{clash, reading, waits}
-use Rattle.protocol.specs.Model.{Model}
+use Rattle.protocol.specs.Holdings.{reading}
 use Rattle.protocol.specs.Places.{has}
-use Rattle.protocol.specs.Step.{answer}
-use Rattle.protocol.specs.Waiting.{WaitsFor}
 use Rattle.protocol.specs.WaitingLaws.{WaitingLaws}
 use Rattle.protocol.proofs.Accepted.{commit_accepted}
 use Rattle.protocol.proofs.Membership.{none_in}

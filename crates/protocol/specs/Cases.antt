@@ -1,6 +1,6 @@
 -- Worked cases: overlaps of jobs, with the answer of each call and the numbers of executions, as one table. Each starts a new book over a store of two
 -- objects, with limit 16. An object that is imaged was locked to write.
-use Rattle.std.specs.Prelude.{◌≡◌, ℕ, Bool, true, false, ◌&&◌, List, [], ◌∷◌, ◌++◌, length, Some, None, Option, ◌==◌}
+use Rattle.std.specs.Prelude.{◌≡◌, ℕ, Bool, true, ◌&&◌, List, [], ◌∷◌, ◌++◌, length, Some, None, Option, ◌==◌}
 use Rattle.terms.specs.declared.modes.Mode.{Mode}
 use Rattle.terms.specs.declared.modes.Mode.TheVariants.{Read, Write}
 use Rattle.terms.specs.declared.calls.Call.{Call}

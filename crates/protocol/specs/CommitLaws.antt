@@ -1,5 +1,5 @@
 -- What a job has when it commits, and what is then in the store.
-use Rattle.std.specs.Prelude.{◌≡◌, ℕ, Bool, true, false, ◌&&◌, List, [], ◌∷◌, length, None, ◌==◌, slice_index, slice_index_or}
+use Rattle.std.specs.Prelude.{◌≡◌, ℕ, false, ◌&&◌, List, [], ◌∷◌, length, None, ◌==◌, slice_index, slice_index_or}
 use Rattle.terms.specs.declared.calls.Call.{Call}
 use Rattle.terms.specs.declared.calls.Call.TheVariants.{Commit}
 use Rattle.terms.specs.Rule.{Rule}

@@ -6,10 +6,10 @@ use Rattle.terms.specs.declared.calls.Call.TheVariants.{Begin, Lock, Image, Comm
 use Rattle.terms.specs.Rule.{Rule}
 use Rattle.protocol.specs.declared.holdings.Holding.{Holding}
 use Rattle.protocol.specs.declared.refusals.Refusal.{Refusal}
-use Rattle.protocol.specs.History.{History, history_of}
+use Rattle.protocol.specs.History.{history_of}
 use Rattle.protocol.specs.Holdings.{begins, locked, turn_state}
 use Rattle.protocol.specs.Lists.{keep, any, each, is_some, In}
-use Rattle.protocol.specs.Model.{Model, new, job_at}
+use Rattle.protocol.specs.Model.{new, job_at}
 use Rattle.protocol.specs.Past.{Event, past}
 use Rattle.protocol.specs.Step.{run}
 

@@ -1,5 +1,5 @@
 -- What an object offers, and which executions a lock leaves, told by the members of their sets.
-use Rattle.std.specs.Prelude.{◌≡◌, ℕ, ◌+◌, ◌≤◌, Bool, true, false, not, ◌&&◌, ◌||◌, ◌⊎◌, ◌↔◌, List, [], ◌∷◌, map, length, None, ◌≢◌, slice_set}
+use Rattle.std.specs.Prelude.{◌≡◌, ℕ, ◌+◌, ◌≤◌, Bool, true, false, not, ◌&&◌, ◌||◌, ◌⊎◌, ◌↔◌, List, map, length, None, ◌≢◌, slice_set}
 use Rattle.terms.specs.declared.calls.Call.TheVariants.{Lock}
 use Rattle.terms.specs.declared.modes.Mode.{Mode}
 use Rattle.terms.specs.Rule.{Rule}

@@ -1,13 +1,13 @@
 -- Which number a call is answered: the first that applies, and then nothing changes.
-use Rattle.std.specs.Prelude.{◌≡◌, ℕ, Bool, true, false, ◌↔◌, List, [], ◌∷◌, ◌++◌, map, Some, None, Option}
+use Rattle.std.specs.Prelude.{◌≡◌, ℕ, Bool, true, false, ◌↔◌, List, [], ◌∷◌, ◌++◌, map, Some, None}
 use Rattle.terms.specs.declared.calls.Call.{Call}
 use Rattle.terms.specs.declared.calls.Call.TheVariants.{Begin, Lock, Image, Commit, Abort}
 use Rattle.terms.specs.Rule.{Rule}
 use Rattle.protocol.specs.declared.refusals.Refusal.{Refusal}
-use Rattle.protocol.specs.Lists.{In, All}
+use Rattle.protocol.specs.Lists.{All}
 use Rattle.protocol.specs.Model.{Model}
 use Rattle.protocol.specs.Refusals.{refusal_number}
-use Rattle.protocol.specs.Step.{new_refusals, refusals, answer, next, step}
+use Rattle.protocol.specs.Step.{new_refusals, refusals, answer, step}
 
 -- the numbers that a call may be answered
 abbrev pub numbers : Call → List ℕ

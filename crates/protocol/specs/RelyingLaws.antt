@@ -2,7 +2,6 @@
 use Rattle.std.specs.Prelude.{◌≡◌, ℕ, true, false, ◌⊎◌, ◌↔◌, ◌≢◌}
 use Rattle.terms.specs.declared.calls.Call.TheVariants.{Begin, Lock, Image, Commit, Abort}
 use Rattle.terms.specs.declared.modes.Mode.{Mode}
-use Rattle.protocol.specs.declared.holdings.Holding.{Holding}
 use Rattle.protocol.specs.History.{History, history_one, relies_on, has_ended}
 use Rattle.protocol.specs.PairingLaws.{Makes}
 

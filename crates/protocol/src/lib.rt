@@ -1,4 +1,6 @@
 // The rules of the book as types and definitions, and the proof of its law.
+#![tactic(auto)]
+
 pub mod assumptions;
 pub mod holdings;
 pub mod jobs;

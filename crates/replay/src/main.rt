@@ -1,4 +1,6 @@
 // Replays the script on standard input: prints the answer to each line, then the value of each object and the executions of each running job.
+#![tactic(auto)]
+
 use replays::replayed;
 use std::io;
 use std::io::Read;

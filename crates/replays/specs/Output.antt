@@ -1,5 +1,5 @@
 -- What a replay prints for the bytes of a script.
-use Rattle.std.specs.Prelude.{ℕ, ◌+◌, List, [], ◌∷◌, ◌++◌, length, get_or, drop, replicate, Some, None, Ok, Err, Option, Result}
+use Rattle.std.specs.Prelude.{ℕ, ◌+◌, List, [], ◌∷◌, ◌++◌, length, replicate, Some, None, Ok, Err, Option, Result}
 use Rattle.terms.specs.declared.calls.Call.{Call}
 use Rattle.terms.specs.Rule.{Rule}
 use Rattle.protocol.specs.declared.assumptions.Execution.{Execution}
@@ -18,7 +18,6 @@ use Rattle.script.specs.Scripts.{Reading, script_in}
 use Rattle.script.specs.declared.faults.Fault.{Fault}
 use Rattle.script.specs.declared.setups.RuleName.{RuleName}
 use Rattle.script.specs.declared.setups.RuleName.TheVariants.{Charge, Loan}
-use Rattle.script.specs.declared.setups.Setup.{Setup}
 
 -- what a line of a script was read as
 abbrev pub LineRead : Type 0

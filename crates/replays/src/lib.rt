@@ -1,4 +1,6 @@
 // Replays a script: carries out its calls on a new book and tells what came of them.
+#![tactic(auto)]
+
 mod lines;
 mod readings;
 mod replaying;

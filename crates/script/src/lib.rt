@@ -1,4 +1,6 @@
 // Reads a script: its setup and the calls that its lines ask for. Writes calls as lines, and the lines of a replay's output.
+#![tactic(auto)]
+
 pub mod calls;
 pub mod faults;
 pub mod laws;

@@ -1,4 +1,6 @@
 // Says of each line of its input what it is as the first line of a script and as a later one.
+#![tactic(auto)]
+
 use fields::{Field, rows};
 use script::{Fault, read_call, read_setup};
 use std::alloc::{AllocError, Global};

@@ -1,5 +1,7 @@
 // The plan sheet: reads the charges of packs from standard input, one number to a line, and prints, for each row of the draw
 // sheet, the minutes of talking in an hour and the whole hours for which the packs last.
+#![tactic(auto)]
+
 use planner::{plan_sheet, read_packs};
 use std::io::Read;
 use stores::TableStore;

@@ -1,4 +1,6 @@
 // Two stores: a table of numbers, and an image of bytes.
+#![tactic(auto)]
+
 pub mod image;
 pub mod table;
 

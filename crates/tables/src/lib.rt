@@ -1,4 +1,6 @@
 // The tables of records that a book is made of.
+#![tactic(auto)]
+
 pub mod ended;
 pub mod records;
 pub mod table;

@@ -59,7 +59,10 @@ impl Assuming for Execution {
     }
 
     fn assume(self, assumption: Assumption) -> Execution {
-        Execution { assumes: assumption, ..self }
+        Execution {
+            assumes: assumption,
+            ..self
+        }
     }
 }
 
@@ -73,6 +76,9 @@ impl Assuming for Version {
     }
 
     fn assume(self, assumption: Assumption) -> Version {
-        Version { assumes: assumption, ..self }
+        Version {
+            assumes: assumption,
+            ..self
+        }
     }
 }

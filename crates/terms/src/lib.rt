@@ -1,4 +1,6 @@
 // The words that stores, job rules, scripts and the book share.
+#![tactic(auto)]
+
 pub mod calls;
 pub mod modes;
 pub mod rules;

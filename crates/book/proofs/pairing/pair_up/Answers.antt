@@ -1,10 +1,10 @@
-use Rattle.std.proofs.Common.{◌≡◌, ◌<◌, List, [], ◌∷◌, ◌++◌, map, length, get_or, sym, refl, ap, ◌∙◌}
+use Rattle.std.proofs.Common.{◌≡◌, ◌<◌, List, [], ◌∷◌, ◌++◌, length, get_or, sym, ap, ◌∙◌}
 use Rattle.std.proofs.lemmas.List.{append-nil}
 use Rattle.std.proofs.lemmas.Result.{err_from_is_err_and}
 use Rattle.protocol.specs.declared.assumptions.Execution.{Execution}
 use Rattle.protocol.specs.Lists.{keep}
 use Rattle.protocol.specs.Model.{names}
-use Rattle.protocol.specs.Pairing.{is_kept, pairs}
+use Rattle.protocol.specs.Pairing.{pairs}
 use Rattle.tables.specs.Items.{items}
 use Rattle.book.specs.Meeting.{meeting}
 use Rattle.book.specs.Blanks.{no_execution}

@@ -1,4 +1,4 @@
-use Rattle.std.proofs.Common.{◌≡◌, Bool, eqb, length, sym, ap, ◌∙◌, arith}
+use Rattle.std.proofs.Common.{Bool, eqb, length, sym, ap, ◌∙◌, arith}
 use Rattle.std.proofs.lemmas.Bool.{eq-eqb, ne_eqb}
 use Rattle.book.proofs.Searched.{keep_here, keep_later, keep_end}
 use Rattle.book.proofs.searching.count_of.Goals as goal

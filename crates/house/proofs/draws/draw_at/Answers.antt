@@ -1,4 +1,4 @@
-use Rattle.std.proofs.Common.{◌≡◌, sym, refl, ◌∙◌, lit<}
+use Rattle.std.proofs.Common.{sym, refl, ◌∙◌, lit<}
 use Rattle.std.proofs.lemmas.List.{at_drop_all}
 use Rattle.house.specs.Draw.{draw_sheet, draw_or, draw}
 use Rattle.house.proofs.Rows.{here, later, draws_some}

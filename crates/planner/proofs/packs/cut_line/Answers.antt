@@ -1,4 +1,4 @@
-use Rattle.std.proofs.Common.{sym, ◌∙◌, arith, rules}
+use Rattle.std.proofs.Common.{sym, arith, rules}
 use Rattle.std.proofs.lemmas.List.{take_rest}
 use Rattle.planner.proofs.Cuts.{take_before, after_within, after_none}
 use Rattle.planner.proofs.packs.cut_line.Goals as goal

@@ -2,7 +2,7 @@ use Rattle.std.proofs.Common.{◌≡◌, ℕ, ◌+◌, ◌<◌, false, eqb, List
 use Rattle.planner.specs.declared.faults.Fault.TheVariants.{NoNumber, TooMany}
 use Rattle.std.proofs.lemmas.Bool.{eqb-false, eqb-true}
 use Rattle.planner.specs.Numbers.{number_of}
-use Rattle.planner.specs.Packs.{after_feed, lines_of, packs_after}
+use Rattle.planner.specs.Packs.{lines_of, packs_after}
 use Rattle.planner.proofs.Cuts.{after_shorter}
 use Rattle.planner.proofs.Turns.{pack_read, no_pack, one_too_many, text_ends}
 use Rattle.planner.proofs.packs.read_packs.Goals as goal

@@ -1,4 +1,4 @@
-use Rattle.std.proofs.Common.{◌≡◌, ◌+◌, ◌<◌, ◌≤◌, length, sym, ap, ◌∙◌, arith}
+use Rattle.std.proofs.Common.{◌+◌, ◌<◌, ◌≤◌, length, sym, ap, ◌∙◌, arith}
 use Rattle.terms.specs.declared.modes.Mode.TheVariants.{Read}
 use Rattle.planner.proofs.Left.{work_at_end, one_more, no_more, value_met, value_there}
 use Rattle.planner.proofs.plans.job_line.Goals as goal

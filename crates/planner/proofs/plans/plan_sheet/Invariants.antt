@@ -1,4 +1,4 @@
-use Rattle.std.proofs.Common.{◌≡◌, ◌≤◌, length, take}
+use Rattle.std.proofs.Common.{◌≡◌, length, take}
 use Rattle.planner.specs.Plan.{sheet_by_rule}
 use Rattle.planner.proofs.plans.plan_sheet.Given as goal
 

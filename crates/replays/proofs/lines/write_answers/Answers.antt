@@ -1,4 +1,4 @@
-use Rattle.std.proofs.Common.{◌≡◌, ◌++◌, string_bytes, ap, ◌∙◌, arith}
+use Rattle.std.proofs.Common.{◌++◌, string_bytes, ap, ◌∙◌, arith}
 use Rattle.script.specs.Outputs.{answer_bytes}
 use Rattle.replays.specs.Output.{lines_from}
 use Rattle.replays.proofs.Writing.{line_more, lines_done}

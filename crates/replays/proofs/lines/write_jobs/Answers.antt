@@ -1,4 +1,4 @@
-use Rattle.std.proofs.Common.{◌≡◌, ◌<◌, ◌≤◌, [], ◌++◌, length, get_or, is_some, None, string_bytes, sym, ap, ◌∙◌, arith}
+use Rattle.std.proofs.Common.{◌<◌, ◌++◌, length, get_or, is_some, None, string_bytes, sym, ap, ◌∙◌, arith}
 use Rattle.tables.specs.Items.{items}
 use Rattle.replays.specs.Output.{lines_from, place_bytes}
 use Rattle.replays.proofs.Few.{few_executions}

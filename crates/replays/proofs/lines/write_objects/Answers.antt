@@ -1,4 +1,4 @@
-use Rattle.std.proofs.Common.{◌≡◌, ◌<◌, ◌≤◌, ◌++◌, length, get_or, string_bytes, sym, ap, ◌∙◌, arith}
+use Rattle.std.proofs.Common.{◌<◌, ◌≤◌, ◌++◌, length, get_or, string_bytes, ap, ◌∙◌, arith}
 use Rattle.script.specs.Outputs.{object_bytes}
 use Rattle.replays.specs.Output.{lines_from}
 use Rattle.replays.proofs.Writing.{line_more, lines_done, value_there, not_there, object_line_is}

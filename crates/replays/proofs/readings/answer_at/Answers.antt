@@ -1,4 +1,4 @@
-use Rattle.std.proofs.Common.{◌≡◌, ◌≤◌, length, None, sym, ap, arith}
+use Rattle.std.proofs.Common.{◌≤◌, length, None, sym, ap, arith}
 use Rattle.std.proofs.lemmas.List.{get_or_past}
 use Rattle.protocol.specs.Cases.{answer_number}
 use Rattle.replays.proofs.readings.answer_at.Goals as goal

@@ -1,4 +1,4 @@
-use Rattle.std.proofs.Common.{◌≡◌, IfOk, Ok, Err, vec_items, string_bytes, Result, ◌∙◌}
+use Rattle.std.proofs.Common.{IfOk, Ok, Err, vec_items, string_bytes, Result, ◌∙◌}
 use Rattle.book.specs.View.{view}
 use Rattle.replays.proofs.Telling.{replay_is}
 use Rattle.replays.proofs.replaying.replay_on.Goals as goal

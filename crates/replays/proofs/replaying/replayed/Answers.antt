@@ -1,4 +1,4 @@
-use Rattle.std.proofs.Common.{◌≡◌, length, vec_items, ap, arith}
+use Rattle.std.proofs.Common.{length, vec_items, ap, arith}
 use Rattle.replays.proofs.Short.{few_lines}
 use Rattle.replays.proofs.replaying.replayed.Goals as goal
 

@@ -1,4 +1,4 @@
-use Rattle.std.proofs.Common.{◌≡◌, ℕ, List, ◌++◌, length, vec_items, string_bytes, ap, ◌∙◌, arith}
+use Rattle.std.proofs.Common.{ℕ, List, ◌++◌, length, vec_items, string_bytes, ap, ◌∙◌, arith}
 use Rattle.tables.specs.Items.{items}
 use Rattle.script.specs.Outputs.{answer_bytes, object_bytes}
 use Rattle.replays.specs.Merged.{merged}

@@ -1,4 +1,4 @@
-use Rattle.std.proofs.Common.{◌≡◌, ◌<◌, ◌≤◌, Bool, true, false, not, ◌&&◌, eqb, length, sym, ap, ◌∙◌, arith}
+use Rattle.std.proofs.Common.{◌≡◌, ◌<◌, ◌≤◌, Bool, not, ◌&&◌, eqb, length, sym, ap, ◌∙◌, arith}
 use Rattle.protocol.specs.Settling.{survives, settled}
 use Rattle.tables.proofs.Sifting.{sifting_passes, sifting_goes, sifted_count, sifted_padded}
 use Rattle.tables.proofs.ended.settle.Goals as goal

@@ -1,4 +1,4 @@
-use Rattle.std.proofs.Common.{◌≡◌, ap, ◌∙◌, arith}
+use Rattle.std.proofs.Common.{ap, ◌∙◌, arith}
 use Rattle.protocol.specs.Places.{single, without}
 use Rattle.tables.proofs.PlaceLaws.{without_placed}
 use Rattle.tables.proofs.ended.without.Goals as goal

@@ -1,9 +1,8 @@
-use Rattle.std.proofs.Common.{◌≡◌, ◌<◌, ◌&&◌, eqb, [], length, get_or, sym, ap, ◌∙◌, ap₂, arith}
+use Rattle.std.proofs.Common.{◌≡◌, ◌<◌, ◌&&◌, eqb, length, sym, ap, ◌∙◌, arith}
 use Rattle.std.proofs.lemmas.Bool.Decides.{nat_tests}
-use Rattle.terms.specs.declared.modes.Mode.{Mode}
 use Rattle.protocol.specs.declared.holdings.Holding.{Holding}
 use Rattle.protocol.specs.declared.holdings.HoldingState.{HoldingState}
-use Rattle.protocol.specs.Holdings.{held_by, holds, opened, begins, locked, waits, new_waits, reach, would_ring}
+use Rattle.protocol.specs.Holdings.{held_by, holds, opened, waits, new_waits, reach, would_ring}
 use Rattle.protocol.specs.Lists.{any, keep}
 use Rattle.protocol.specs.Places.{has, placed}
 use Rattle.holders.proofs.Cut.{would_ring_placed}

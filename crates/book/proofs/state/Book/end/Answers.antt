@@ -1,7 +1,6 @@
-use Rattle.std.proofs.Common.{◌≡◌, List, length, set, None, sym, refl, ap, ◌∙◌, subst}
+use Rattle.std.proofs.Common.{set, None, sym, refl, ◌∙◌, subst}
 use Rattle.std.proofs.lemmas.List.{length-set}
-use Rattle.protocol.specs.declared.assumptions.Execution.{Execution}
-use Rattle.protocol.specs.Settling.{settle, survives, settled_execution}
+use Rattle.protocol.specs.Settling.{survives, settled_execution}
 use Rattle.tables.specs.Items.{items}
 use Rattle.book.specs.View.{view}
 use Rattle.tables.specs.Within.{Within, job_of_execution, job_of_holding}

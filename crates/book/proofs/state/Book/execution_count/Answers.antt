@@ -1,4 +1,4 @@
-use Rattle.std.proofs.Common.{◌≡◌, length, sym, ap, arith}
+use Rattle.std.proofs.Common.{length, sym, ap, arith}
 use Rattle.tables.specs.Items.{items}
 use Rattle.tables.specs.Within.{job_of_execution}
 use Rattle.book.proofs.Empty.{none_there}

@@ -1,4 +1,4 @@
-use Rattle.std.proofs.Common.{◌≡◌, sym, ap, ◌∙◌, arith}
+use Rattle.std.proofs.Common.{sym, ap, ◌∙◌, arith}
 use Rattle.protocol.specs.Lists.{keep}
 use Rattle.protocol.specs.Holdings.{held_by}
 use Rattle.tables.specs.Items.{items}

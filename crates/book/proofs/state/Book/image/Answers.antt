@@ -1,4 +1,4 @@
-use Rattle.std.proofs.Common.{◌≡◌, ℕ, ◌+◌, ◌<◌, ◌≤◌, Bool, true, false, not, ◌&&◌, List, [], ◌∷◌, ◌++◌, map, length, Some, sym, refl, ap, ◌∙◌, subst, arith}
+use Rattle.std.proofs.Common.{◌≡◌, ◌+◌, ◌≤◌, true, ◌&&◌, ◌++◌, map, length, Some, sym, refl, ap, ◌∙◌, subst, arith}
 use Rattle.std.proofs.lemmas.List.{length-map}
 use Rattle.std.proofs.lemmas.Result.{err_from_is_err_and}
 use Rattle.std.proofs.lemmas.Bool.{not-false, ltb-false}
@@ -9,7 +9,7 @@ use Rattle.protocol.specs.Lock.{no_live_job}
 use Rattle.protocol.specs.Model.{names, executions_of}
 use Rattle.tables.specs.Items.{items}
 use Rattle.book.specs.View.{view}
-use Rattle.tables.specs.Within.{Within, count, job_of_holding, job_of_execution}
+use Rattle.tables.specs.Within.{Within, job_of_holding, job_of_execution}
 use Rattle.book.proofs.Locking.{first_append, first_passed}
 use Rattle.tables.proofs.Rooms.{within_at}
 use Rattle.book.proofs.Adding.{with_room}

@@ -1,7 +1,4 @@
-use Rattle.std.proofs.Common.{◌≡◌, ℕ, ◌+◌, ◌<◌, ◌≤◌, not, List, [], ◌∷◌, ◌++◌, length, sym, refl, ap, ◌∙◌, subst, arith}
-use Rattle.protocol.specs.Lists.{keep}
-use Rattle.protocol.specs.Model.{names, job_at}
-use Rattle.protocol.specs.Pairing.{kept_pairs}
+use Rattle.std.proofs.Common.{[], ◌∷◌, ◌++◌, sym, ap, ◌∙◌, subst, arith}
 use Rattle.tables.specs.Items.{items}
 use Rattle.book.specs.View.{view}
 use Rattle.tables.specs.Within.{Within, job_of_execution, job_of_holding}

@@ -1,4 +1,4 @@
-use Rattle.std.proofs.Common.{◌≡◌, ◌&&◌, eqb, [], sym, ap, ◌∙◌, arith}
+use Rattle.std.proofs.Common.{◌≡◌, ◌&&◌, eqb, [], sym, ap, ◌∙◌}
 use Rattle.protocol.specs.Ending.{commit_barred}
 use Rattle.protocol.specs.Holdings.{held_by, opened, waits}
 use Rattle.protocol.specs.Lists.{any}

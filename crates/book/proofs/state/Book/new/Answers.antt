@@ -1,7 +1,6 @@
-use Rattle.std.proofs.Common.{◌≡◌, ℕ, List, [], replicate, None, sym, refl, ap, ◌∙◌, arith}
+use Rattle.std.proofs.Common.{replicate, None, refl, arith}
 use Rattle.tables.specs.Items.{items}
 use Rattle.tables.specs.Within.{job_of_execution, job_of_holding}
-use Rattle.protocol.specs.Model.{Model, new}
 use Rattle.book.proofs.New.{new_accepted, none_within, none_ringless, new_is}
 use Rattle.book.proofs.state.Book.new.Goals as goal
 

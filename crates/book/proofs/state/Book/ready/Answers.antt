@@ -1,6 +1,4 @@
-use Rattle.std.proofs.Common.{◌≡◌, [], sym, ap, ◌∙◌, inl, inr, arith}
-use Rattle.std.proofs.lemmas.Bool.{cases_lt}
-use Rattle.book.specs.Ready.{is_free}
+use Rattle.std.proofs.Common.{[], sym, arith}
 use Rattle.book.specs.View.{view}
 use Rattle.book.proofs.Freed.{ready_here, ready_none}
 use Rattle.book.proofs.state.Book.ready.Goals as goal

@@ -1,14 +1,12 @@
-use Rattle.std.proofs.Common.{◌≡◌, ℕ, ◌<◌, ◌≤◌, true, false, List, [], ◌∷◌, ◌++◌, length, Some, sym, refl, ap, ◌∙◌, subst, arith}
+use Rattle.std.proofs.Common.{◌≡◌, ◌<◌, ◌≤◌, List, ◌++◌, length, sym, ap, ◌∙◌, subst, arith}
 use Rattle.std.proofs.lemmas.List.{length-take-le}
 use Rattle.std.proofs.lemmas.Result.{err_from_is_err_and}
 use Rattle.std.proofs.lemmas.Bool.{eqb-true, eqb-false}
 use Rattle.protocol.specs.declared.assumptions.Execution.{Execution}
-use Rattle.protocol.specs.declared.assumptions.Offer.{Offer}
 use Rattle.protocol.specs.Lists.{keep}
 use Rattle.protocol.specs.Model.{names}
 use Rattle.protocol.specs.Pairing.{offers, kept_pairs, pairs, pair}
 use Rattle.tables.specs.Items.{items}
-use Rattle.book.specs.Meeting.{meeting}
 use Rattle.holders.specs.Placed.{Placed}
 use Rattle.book.specs.View.{view}
 use Rattle.book.proofs.Locking.{answer_absent, answer_barred, answer_none, answer_many, answer_taken}

@@ -1,7 +1,5 @@
-use Rattle.std.proofs.Common.{◌≡◌, ◌+◌, List, map, get_or, drop, sym, refl, ap, ◌∙◌}
-use Rattle.std.proofs.lemmas.List.{get_or_read}
+use Rattle.std.proofs.Common.{◌+◌, map, get_or, drop, sym, refl, ap, ◌∙◌}
 use Rattle.std.proofs.lemmas.Bool.{eq-eqb, ne_eqb}
-use Rattle.protocol.specs.declared.assumptions.Version.{Version}
 use Rattle.protocol.specs.Lists.{keep}
 use Rattle.protocol.specs.Pairing.{of_object}
 use Rattle.book.specs.Blanks.{no_version}
