@@ -1,7 +1,7 @@
 -- One turn of cutting each line into its fields.
 use Rattle.std.proofs.Common.{◌≡◌, ℕ, ◌+◌, ◌<◌, ◌≤◌, List, [], ◌∷◌, ◌++◌, map, length, get_or, drop, Vec, sym, ap, ◌∙◌, subst, append-nil, arith}
 use Rattle.std.specs.declared.alloc.Global.{Global}
-use Rattle.std.specs.List.{AllByRecursion as All}
+use Rattle.std.specs.List.{AllByRecursion}
 use Rattle.std.proofs.ByRecursion.{All-get_or}
 use Rattle.std.proofs.lemmas.List.{at_drop_more, at_drop_all, get_or-map, length-map}
 use Rattle.fields.specs.Places.{word_of, row_of, end_of, words, lines_of, rows_of}
@@ -18,7 +18,7 @@ module _ (s : List ℕ) (lines items : List Field) (same : lines ≡ items) (all
 
   pub line_inside : (i : ℕ) → i < length lines → end_of (word_of (get_or lines i blank)) ≤ length s
   line_inside i h =
-      let within : All (Within s) (map word_of lines) = subst (All (Within s)) (sym are) (lines_within s) in
+      let within : AllByRecursion (Within s) (map word_of lines) = subst (AllByRecursion (Within s)) (sym are) (lines_within s) in
       let long = length-map lines word_of in
       let one = All-get_or (Within s) (map word_of lines) i (word_of blank) (omega arith) within in
       ends_within s (word_of (get_or lines i blank)) (subst (Within s) (get_or-map word_of lines i blank (word_of blank) h) one)

@@ -1,6 +1,6 @@
 -- Where the lines and fields stand in their script.
 use Rattle.std.proofs.Common.{◌≡◌, ℕ, ◌+◌, ◌-◌, ◌<◌, ◌≤◌, Bool, true, false, cond, eqb, ltb, List, [], ◌∷◌, ◌++◌, map, length, get_or, take, drop, sym, refl, ap, ◌∙◌, arith, length-append}
-use Rattle.std.specs.List.{join_with_byte, AllByRecursion as All}
+use Rattle.std.specs.List.{join_with_byte, AllByRecursion}
 use Rattle.std.specs.Str.Iter.{LacksByte}
 use Rattle.std.proofs.lemmas.List.{append_assoc, append-nil, take_at, drop_at, take_more, take_all}
 use Rattle.std.proofs.lemmas.Bool.{and_parts, ltb-true, eqb-true}
@@ -29,7 +29,7 @@ at_place s w h =
     ∙ take_at w.text h.back (length w.text) refl
 
 -- pieces that stand in a row stand each at its place
-row_within : (s : List ℕ) (m : ℕ) (ws : List (List ℕ)) (n : ℕ) (front back : List ℕ) → length front ≡ n → s ≡ front ++ (join_with_byte m ws ++ back) → All (Within s) (placed n ws)
+row_within : (s : List ℕ) (m : ℕ) (ws : List (List ℕ)) (n : ℕ) (front back : List ℕ) → length front ≡ n → s ≡ front ++ (join_with_byte m ws ++ back) → AllByRecursion (Within s) (placed n ws)
 row_within s m [] n front back l e = tt
 row_within s m (w ∷ []) n front back l e = (record { front = front; back = back; parts = e; long = l }, tt)
 row_within s m (w ∷ v ∷ ws) n front back l e =
@@ -41,7 +41,7 @@ row_within s m (w ∷ v ∷ ws) n front back l e =
     )
 
 -- the parts of a part of s
-pub words_within : (s : List ℕ) (m : ℕ) (w : Word) → Within s w → All (Within s) (words m w)
+pub words_within : (s : List ℕ) (m : ℕ) (w : Word) → Within s w → AllByRecursion (Within s) (words m w)
 words_within s m w h =
     row_within s m (pieces m w.text) w.at h.front h.back h.long
     (h.parts ∙ ap (λ t. h.front ++ (t ++ h.back)) (sym (whole m w.text)))
@@ -57,7 +57,7 @@ fed_parts s false e = append-nil s
 body_parts : (s : List ℕ) → body s ++ last_mark 10 s ≡ s
 body_parts s = fed_parts s (fed s) refl
 
-pub lines_within : (s : List ℕ) → All (Within s) (lines_of s)
+pub lines_within : (s : List ℕ) → AllByRecursion (Within s) (lines_of s)
 lines_within s = words_within s 10 (record { text = body s; at = 0 }) (record { front = []; back = last_mark 10 s; parts = sym (body_parts s); long = refl })
 
 pub texts_placed : (n : ℕ) (ws : List (List ℕ)) → texts (placed n ws) ≡ ws
@@ -74,16 +74,16 @@ fields_join (l ∷ ls) = λ i. (ap (join_with_byte 44) (texts_placed l.at (piece
 pub fields_join_to_their_lines : FieldsJoinToTheirLines 44
 fields_join_to_their_lines s = fields_join (lines_of s)
 
-all_placed : (P : List ℕ → Type 0) (n : ℕ) (ws : List (List ℕ)) → All P ws → All (λ (w : Word). P w.text) (placed n ws)
+all_placed : (P : List ℕ → Type 0) (n : ℕ) (ws : List (List ℕ)) → AllByRecursion P ws → AllByRecursion (λ (w : Word). P w.text) (placed n ws)
 all_placed P n [] h = tt
 all_placed P n (w ∷ ws) (h, hs) = (h, all_placed P (n + (length w + 1)) ws hs)
 
 -- what three lists of facts say of each item
-stand : (s : List ℕ) (ws : List Word) → All (Within s) ws → All (λ w. LacksByte 44 w.text) ws → All (λ w. LacksByte 10 w.text) ws → All (Stands 44 10 s) ws
+stand : (s : List ℕ) (ws : List Word) → AllByRecursion (Within s) ws → AllByRecursion (λ w. LacksByte 44 w.text) ws → AllByRecursion (λ w. LacksByte 10 w.text) ws → AllByRecursion (Stands 44 10 s) ws
 stand s [] a b c = tt
 stand s (w ∷ ws) (a, as') (b, bs) (c, cs) = ((at_place s w a, b, c), stand s ws as' bs cs)
 
-fields_stand : (s : List ℕ) (ls : List Word) → All (Within s) ls → All (λ w. LacksByte 10 w.text) ls → All (All (Stands 44 10 s)) (map (words 44) ls)
+fields_stand : (s : List ℕ) (ls : List Word) → AllByRecursion (Within s) ls → AllByRecursion (λ w. LacksByte 10 w.text) ls → AllByRecursion (AllByRecursion (Stands 44 10 s)) (map (words 44) ls)
 fields_stand s [] a b = tt
 fields_stand s (l ∷ ls) (a, as') (b, bs) = (
   stand s (words 44 l) (words_within s 44 l a) (all_placed (LacksByte 44) l.at (pieces 44 l.text) (lacks 44 l.text))

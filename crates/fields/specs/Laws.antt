@@ -1,6 +1,6 @@
 -- What cutting keeps.
 use Rattle.std.specs.Prelude.{◌≡◌, ℕ, cond, List, [], ◌∷◌, ◌++◌, map, length, take, drop}
-use Rattle.std.specs.List.{join_with_byte, AllByRecursion as All}
+use Rattle.std.specs.List.{join_with_byte, AllByRecursion}
 use Rattle.std.specs.Str.Iter.{LacksByte}
 use Rattle.fields.specs.Places.{Word, fed, lines_of, rows_of}
 
@@ -26,4 +26,4 @@ Stands m n s w = (take (length w.text) (drop w.at s) ≡ w.text) × LacksByte m 
 
 -- so stands each field of each line
 abbrev pub FieldsStandInTheScript : ℕ → ℕ → Type 0
-FieldsStandInTheScript m n = (s : List ℕ) → All (All (Stands m n s)) (rows_of s)
+FieldsStandInTheScript m n = (s : List ℕ) → AllByRecursion (AllByRecursion (Stands m n s)) (rows_of s)

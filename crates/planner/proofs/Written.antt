@@ -4,7 +4,7 @@ use Rattle.std.proofs.lemmas.Fmt.{digits_decimal, digits_value-decimal, decimal_
 use Rattle.std.proofs.lemmas.Str.Parse.{IsNumeralModel, numerals_by_fold}
 use Rattle.std.proofs.lemmas.Bool.{and_parts, leb-true, ne_eqb, cond-false}
 use Rattle.std.proofs.lemmas.Bool.Decides.{nat_tests}
-use Rattle.std.specs.List.{AllByRecursion as All}
+use Rattle.std.specs.List.{AllByRecursion}
 use Rattle.planner.specs.Numbers.{digits, value_after, number_of}
 use Rattle.planner.specs.Packs.{before_feed, after_feed, lines_of, packs_after}
 use Rattle.planner.specs.PackLaws.{written, ReadsBack}
@@ -32,7 +32,7 @@ cut_digits (d ∷ ds) rest all =
       cond-false (eqb d 10) (ds ++ (10 ∷ rest)) (after_feed (ds ++ (10 ∷ rest))) off ∙ ih.1,
     )
 
-back : (read packs : List ℕ) → All (λ pack. pack < 2 ^ 64) packs → length read + length packs ≤ 65536 → packs_after read (lines_of (written packs)) ≡ Ok (read ++ packs)
+back : (read packs : List ℕ) → AllByRecursion (λ pack. pack < 2 ^ 64) packs → length read + length packs ≤ 65536 → packs_after read (lines_of (written packs)) ≡ Ok (read ++ packs)
 back read [] small room = text_ends read [] refl ∙ ap Ok (sym (append-nil read))
 back read (pack ∷ rest) small room =
     let text : List ℕ = decimal pack ++ (10 ∷ written rest) in

@@ -1,6 +1,6 @@
 -- Calls, from their lines and back.
 use Rattle.std.proofs.Common.{◌≡◌, ℕ, suc, ◌^◌, ◌<◌, List, [], ◌∷◌, length, Some, None, Ok, decimal, Option, Result, sym, refl, ap, ◌∙◌, subst, ⊎_elim, arith}
-use Rattle.std.specs.List.{join_with_byte, AllByRecursion as All}
+use Rattle.std.specs.List.{join_with_byte, AllByRecursion}
 use Rattle.std.specs.Str.Iter.{LacksByte}
 use Rattle.fields.specs.Cut.{pieces}
 use Rattle.fields.proofs.Joins.{whole, unique}
@@ -40,7 +40,7 @@ mode_lacks : (m : Mode) → LacksByte 44 (mode_letter m ∷ [])
 mode_lacks Read = letter_lacks 82 (λ e. absurd (omega arith))
 mode_lacks Write = letter_lacks 87 (λ e. absurd (omega arith))
 
-lacks : (c : Call) → ShortCall (10 ^ 18) c → All (LacksByte 44) (parts c)
+lacks : (c : Call) → ShortCall (10 ^ 18) c → AllByRecursion (LacksByte 44) (parts c)
 lacks (Begin p k a) (hp, hk, ha) = (letter_lacks 66 (λ e. absurd (omega arith)), (decimal_lacks p hp, (decimal_lacks k hk, (decimal_lacks a ha, tt))))
 lacks (Lock p o m) (hp, ho) = (letter_lacks 76 (λ e. absurd (omega arith)), (decimal_lacks p hp, (decimal_lacks o ho, (mode_lacks m, tt))))
 lacks (Image p o) (hp, ho) = (letter_lacks 73 (λ e. absurd (omega arith)), (decimal_lacks p hp, (decimal_lacks o ho, tt)))

@@ -1,6 +1,6 @@
 -- Setups, from their lines and back.
 use Rattle.std.proofs.Common.{◌≡◌, ℕ, ◌^◌, ◌≤◌, Bool, true, false, cond, leb, List, [], ◌∷◌, length, Some, None, Ok, Err, decimal, Option, sym, refl, ap, ◌∙◌, subst, ⊎_elim, arith}
-use Rattle.std.specs.List.{join_with_byte, AllByRecursion as All}
+use Rattle.std.specs.List.{join_with_byte, AllByRecursion}
 use Rattle.std.specs.Str.Iter.{LacksByte}
 use Rattle.std.proofs.lemmas.Bool.{leb-true, le-leb}
 use Rattle.fields.specs.Cut.{pieces}
@@ -31,7 +31,7 @@ store_lacks : (n : StoreName) → LacksByte 44 (store_bytes n)
 store_lacks Table = letter_lacks 84 (λ e. absurd (omega arith))
 store_lacks Image = letter_lacks 77 (λ e. absurd (omega arith))
 
-lacks : (s : Setup) → ShortSetup (10 ^ 18) 64 s → All (LacksByte 44) (parts s)
+lacks : (s : Setup) → ShortSetup (10 ^ 18) 64 s → AllByRecursion (LacksByte 44) (parts s)
 lacks s (hr, hl, ho) =
     (letter_lacks 83 (λ e. absurd (omega arith)), (rule_lacks s.rule, (store_lacks s.store, (decimal_lacks s.robustness hr, (decimal_lacks s.limit hl, (decimal_lacks s.objects (omega arith), tt))))))
 
