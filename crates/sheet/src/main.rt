@@ -4,6 +4,7 @@
 
 use planner::{plan_sheet, read_packs};
 use std::io::Read;
+use std::process::ExitCode;
 use stores::TableStore;
 
 fn run(rt: &HostRuntime) -> anyhow::Result<()> {
@@ -19,10 +20,13 @@ fn run(rt: &HostRuntime) -> anyhow::Result<()> {
     Ok(())
 }
 
-fn main(rt: HostRuntime) -> anyhow::Result<()> {
-    let result = run(&rt);
-    if let Err(error) = &result {
-        eprintln!(rt; "sheet: {error}")?;
+fn main(rt: HostRuntime) -> ExitCode {
+    match run(&rt) {
+        Ok(()) => ExitCode::SUCCESS,
+        Err(error) => {
+            // Where standard error fails too, the status alone tells.
+            let _ = eprintln!(rt; "sheet: {error}");
+            ExitCode::FAILURE
+        }
     }
-    result
 }
