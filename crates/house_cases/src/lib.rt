@@ -1,6 +1,6 @@
+// Runs the house rules, the stores and the planner on many cases.
 #![tactic(auto)]
 
-// Runs the house rules, the stores and the planner on many cases.
 #[cfg(test)]
 mod cases;
 
@@ -9,24 +9,29 @@ mod tests {
     use super::cases::{CHARGES, Case, LOANS};
     use house::{ChargeRule, LoanRule};
     use planner::{Fault, job_line, read_packs};
-    use std::process::Abort;
     use std::test::Fail;
     use stores::{ImageStore, TableStore};
     use terms::JobRule;
 
-    fn agrees<R: JobRule>(rt: &impl Abort, rule: &R, cases: &[Case]) {
+    fn agrees<R: JobRule>(rule: &R, cases: &[Case]) -> Result<(), Fail> {
         for ((kind, argument, work, mode, met), (known, start, take, give)) in cases {
-            assert_eq!(rt; rule.knows(*kind), *known);
-            assert_eq!(rt; rule.start(*kind, *argument), *start);
-            assert_eq!(rt; rule.take(*kind, *argument, *work, 0, *mode, *met), *take);
-            assert_eq!(rt; rule.give(*kind, *argument, *work, 0, *met), *give);
+            let told = (
+                rule.knows(*kind),
+                rule.start(*kind, *argument),
+                rule.take(*kind, *argument, *work, 0, *mode, *met),
+                rule.give(*kind, *argument, *work, 0, *met),
+            );
+            if told != (*known, *start, *take, *give) {
+                return Err(Fail::new(format_args!("kind {kind}, argument {argument}: {told:?}")));
+            }
         }
+        Ok(())
     }
 
     #[test]
-    fn rules_agree_with_the_cases(rt: HostRuntime) {
-        agrees(&rt, &ChargeRule, &CHARGES);
-        agrees(&rt, &LoanRule, &LOANS);
+    fn rules_agree_with_the_cases() -> Result<(), Fail> {
+        agrees(&ChargeRule, &CHARGES)?;
+        agrees(&LoanRule, &LOANS)
     }
 
     #[test]
