@@ -1,4 +1,4 @@
--- What a job made_value, found and written.
+-- What a job made, found and written.
 use Rattle.std.proofs.Common.{◌≡◌, ℕ, ◌+◌, ◌<◌, Bool, true, false, ◌&&◌, eqb, List, [], ◌∷◌, ◌++◌, length, get_or, drop, set, sym, refl, ap, ◌∙◌}
 use Rattle.std.proofs.lemmas.List.{at_drop_more}
 use Rattle.terms.specs.declared.calls.Call.TheVariants.{Commit}
