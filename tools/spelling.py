@@ -5,7 +5,8 @@ usage: python3 tools/spelling.py            at the top of the repository, once, 
        python3 tools/spelling.py --check    writes nothing, and lists the names that would fall together with others
 
 A name here is one that a file of specs/ or proofs/ declares: a definition, a lemma, a record, its fields, a local name. What the kit
-names (the words of its library, the labels of goals) stays. Functions, strings, inputs and outputs are not touched.
+names (the words of its library, the labels of goals) stays, but for labels that a proof imports by name from its goals: these were turned too, and
+put back by hand. Functions, strings, inputs and outputs are not touched.
 """
 
 import os
