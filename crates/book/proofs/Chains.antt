@@ -1,15 +1,16 @@
 -- Chains of reasons to refuse, from the facts that a call has found.
-use Rattle.std.proofs.Common.{◌≡◌, ℕ, ◌+◌, ◌<◌, ◌≤◌, Bool, true, false, not, ◌&&◌, eqb, ltb, leb, List, [], ◌∷◌, length, Some, None, Option, refl, ap, ◌∙◌, ap₂, arith}
-use Rattle.std.proofs.lemmas.Bool.{le-ltb, lt-ltb, lt-leb, le-leb}
+use Rattle.std.proofs.Common.{◌≡◌, ℕ, ◌+◌, ◌<◌, ◌≤◌, Bool, true, false, not, ◌&&◌, eqb, ltb, leb, [], ◌∷◌, length, Some, None, Option, refl, ap, ◌∙◌, ap₂}
+use Rattle.std.specs.List.{list_any}
+use Rattle.std.proofs.lemmas.Bool.{le-ltb, lt-ltb, lt-leb}
 use Rattle.terms.specs.declared.modes.Mode.{Mode}
 use Rattle.protocol.specs.declared.refusals.Refusal.{Refusal}
-use Rattle.protocol.specs.declared.refusals.Refusal.TheVariants.{NoSuchPlace, NoJob, LostJob, NoSuchObject, AlreadyHeld, TooManyHeld, OpenElsewhere, WouldWaitForItself, NotOpen, TooManyVersions, HasOpen, Waits}
+use Rattle.protocol.specs.declared.refusals.Refusal.TheVariants.{NoSuchObject, AlreadyHeld, TooManyHeld, OpenElsewhere, WouldWaitForItself, NotOpen, TooManyVersions, HasOpen, Waits}
 use Rattle.protocol.specs.Ending.{commit_barred}
 use Rattle.protocol.specs.Holdings.{opened, held_by, holds, locked, waits, would_ring}
 use Rattle.protocol.specs.Image.{image_barred}
-use Rattle.protocol.specs.Lists.{first, any, is_nil, is_some}
-use Rattle.protocol.specs.Lock.{no_live_job, lock_barred}
-use Rattle.protocol.specs.Model.{Model, job_at, executions_of, holding_count}
+use Rattle.protocol.specs.Lists.{first}
+use Rattle.protocol.specs.Lock.{lock_barred}
+use Rattle.protocol.specs.Model.{Model, executions_of, holding_count}
 
 -- a function of three and of five tests
 ap3 : {X : Type 0} (f : Bool → Bool → Bool → X) (a b c x y z : Bool) → a ≡ x → b ≡ y → c ≡ z → f a b c ≡ f x y z
@@ -18,59 +19,35 @@ ap3 f a b c x y z d e g = ap (λ a. f a b c) d ∙ ap (λ b. f x b c) e ∙ ap (
 ap5 : {X : Type 0} (f : Bool → Bool → Bool → Bool → Bool → X) (a b c d e u v x y z : Bool) → a ≡ u → b ≡ v → c ≡ x → d ≡ y → e ≡ z → f a b c d e ≡ f u v x y z
 ap5 f a b c d e u v x y z k l m n o = ap3 (λ a b c. f a b c d e) a b c u v x k l m ∙ ap (λ d. f u v x d e) n ∙ ap (λ e. f u v x y e) o
 
-nil_some : {A : Type 0} (xs : List A) → (length xs ≡ 0 → ⊥) → is_nil xs ≡ false
-nil_some [] h = absurd (h refl)
-nil_some (x ∷ xs) h = refl
-
-nil_none : {A : Type 0} (xs : List A) → length xs ≡ 0 → is_nil xs ≡ true
-nil_none [] h = refl
-nil_none (x ∷ xs) h = absurd (omega arith)
-
-module _ (m : Model) (p : ℕ) (small : p < 16) (runs : is_some (job_at m p) ≡ true) where
-  abbrev live_tests : Bool → Bool → Bool → Option Refusal
-  live_tests a b c = first ((a, NoSuchPlace) ∷ (b, NoJob) ∷ (c, LostJob) ∷ [])
-
-  live_as : (c : Bool) → is_nil (executions_of p m) ≡ c → first (no_live_job m p) ≡ live_tests false false c
-  live_as c e = ap3 live_tests (ltb 15 p) (not (is_some (job_at m p))) (is_nil (executions_of p m)) false false c (le-ltb 15 p (omega arith)) (ap not runs) e
-
-  pub lost : length (executions_of p m) ≡ 0 → first (no_live_job m p) ≡ Some LostJob
-  lost none = live_as true (nil_none (executions_of p m) none)
-
-  pub live : (length (executions_of p m) ≡ 0 → ⊥) → first (no_live_job m p) ≡ None
-  live some = live_as false (nil_some (executions_of p m) some)
-
-module _ (m : Model) (p o : ℕ) (mode : Mode) (here : o < length m.values) (new : any (holds p o) m.holdings ≡ false) (few : holding_count m p < 8) where
+module _ (m : Model) (p o : ℕ) (mode : Mode) (here : o < length m.values) (new : list_any (holds p o) m.holdings ≡ false) (few : holding_count m p < 8) where
   abbrev lock_tests : Bool → Bool → Bool → Bool → Bool → Option Refusal
   lock_tests a b c d e = first ((a, NoSuchObject) ∷ (b, AlreadyHeld) ∷ (c, TooManyHeld) ∷ (d, OpenElsewhere) ∷ (e, WouldWaitForItself) ∷ [])
 
-  lock_as : (d e : Bool) → any (λ h. eqb h.object o && opened h.state) m.holdings ≡ d → would_ring m.holdings (locked p o mode) ≡ e → first (lock_barred m p o mode) ≡ lock_tests false false false d e
+  lock_as : (d e : Bool) → list_any (λ h. eqb h.object o && opened h.state) m.holdings ≡ d → would_ring m.holdings (locked p o mode) ≡ e → first (lock_barred m p o mode) ≡ lock_tests false false false d e
   lock_as d e f g =
-      ap5 lock_tests (leb (length m.values) o) (any (holds p o) m.holdings) (leb 8 (holding_count m p)) (any (λ h. eqb h.object o && opened h.state) m.holdings) (would_ring m.holdings (locked p o mode))
+      ap5 lock_tests (leb (length m.values) o) (list_any (holds p o) m.holdings) (leb 8 (holding_count m p)) (list_any (λ h. eqb h.object o && opened h.state) m.holdings) (would_ring m.holdings (locked p o mode))
       false false false d e (lt-leb (length m.values) o here) new (lt-leb 8 (holding_count m p) few) f g
 
-  pub lock_open : any (λ h. eqb h.object o && opened h.state) m.holdings ≡ true → first (lock_barred m p o mode) ≡ Some OpenElsewhere
-  lock_open e = lock_as true (would_ring m.holdings (locked p o mode)) e refl
-
-  pub lock_ring : any (λ h. eqb h.object o && opened h.state) m.holdings ≡ false → would_ring m.holdings (locked p o mode) ≡ true → first (lock_barred m p o mode) ≡ Some WouldWaitForItself
+  pub lock_ring : list_any (λ h. eqb h.object o && opened h.state) m.holdings ≡ false → would_ring m.holdings (locked p o mode) ≡ true → first (lock_barred m p o mode) ≡ Some WouldWaitForItself
   lock_ring e f = lock_as false true e f
 
-  pub lock_free : any (λ h. eqb h.object o && opened h.state) m.holdings ≡ false → would_ring m.holdings (locked p o mode) ≡ false → first (lock_barred m p o mode) ≡ None
+  pub lock_free : list_any (λ h. eqb h.object o && opened h.state) m.holdings ≡ false → would_ring m.holdings (locked p o mode) ≡ false → first (lock_barred m p o mode) ≡ None
   lock_free e f = lock_as false false e f
 
 module _ (m : Model) (p : ℕ) where
   abbrev commit_tests : Bool → Bool → Option Refusal
   commit_tests a b = first ((a, HasOpen) ∷ (b, Waits) ∷ [])
 
-  commit_as : (a b : Bool) → any (λ h. held_by p h && opened h.state) m.holdings ≡ a → not (eqb (waits m.holdings p) 0) ≡ b → first (commit_barred m p) ≡ commit_tests a b
+  commit_as : (a b : Bool) → list_any (λ h. held_by p h && opened h.state) m.holdings ≡ a → not (eqb (waits m.holdings p) 0) ≡ b → first (commit_barred m p) ≡ commit_tests a b
   commit_as a b e f = ap₂ commit_tests e f
 
-  pub commit_open : any (λ h. held_by p h && opened h.state) m.holdings ≡ true → first (commit_barred m p) ≡ Some HasOpen
+  pub commit_open : list_any (λ h. held_by p h && opened h.state) m.holdings ≡ true → first (commit_barred m p) ≡ Some HasOpen
   commit_open e = commit_as true (not (eqb (waits m.holdings p) 0)) e refl
 
-  pub commit_waits : any (λ h. held_by p h && opened h.state) m.holdings ≡ false → eqb (waits m.holdings p) 0 ≡ false → first (commit_barred m p) ≡ Some Waits
+  pub commit_waits : list_any (λ h. held_by p h && opened h.state) m.holdings ≡ false → eqb (waits m.holdings p) 0 ≡ false → first (commit_barred m p) ≡ Some Waits
   commit_waits e f = commit_as false true e (ap not f)
 
-  pub commit_free : any (λ h. held_by p h && opened h.state) m.holdings ≡ false → eqb (waits m.holdings p) 0 ≡ true → first (commit_barred m p) ≡ None
+  pub commit_free : list_any (λ h. held_by p h && opened h.state) m.holdings ≡ false → eqb (waits m.holdings p) 0 ≡ true → first (commit_barred m p) ≡ None
   commit_free e f = commit_as false false e (ap not f)
 
 module _ (m : Model) (p o : ℕ) where
@@ -78,16 +55,13 @@ module _ (m : Model) (p o : ℕ) where
   image_tests a b c = first ((a, NoSuchObject) ∷ (b, NotOpen) ∷ (c, TooManyVersions) ∷ [])
 
   abbrev mine : Bool
-  mine = any (λ h. holds p o h && opened h.state) m.holdings
+  mine = list_any (λ h. holds p o h && opened h.state) m.holdings
 
   abbrev after : ℕ
   after = length m.versions + length (executions_of p m)
 
   image_as : (a b c : Bool) → leb (length m.values) o ≡ a → not mine ≡ b → ltb 256 after ≡ c → first (image_barred m p o) ≡ image_tests a b c
   image_as a b c e f g = ap3 image_tests (leb (length m.values) o) (not mine) (ltb 256 after) a b c e f g
-
-  pub image_absent : length m.values ≤ o → first (image_barred m p o) ≡ Some NoSuchObject
-  image_absent l = image_as true (not mine) (ltb 256 after) (le-leb (length m.values) o l) refl refl
 
   pub image_shut : o < length m.values → mine ≡ false → first (image_barred m p o) ≡ Some NotOpen
   image_shut here e = image_as false true (ltb 256 after) (lt-leb (length m.values) o here) (ap not e) refl

@@ -1,11 +1,12 @@
 -- Where a job runs, one that runs waits for none.
 use Rattle.std.proofs.Common.{◌≡◌, ℕ, suc, ◌<◌, ◌≤◌, true, false, eqb, List, [], ◌∷◌, length, get_or, Some, None, Option, sym, refl, ap, ◌∙◌, subst, inl, inr, arith}
+use Rattle.std.specs.Prelude.{is_some, MatchOption}
 use Rattle.std.proofs.lemmas.List.{get_or_past}
 use Rattle.std.proofs.lemmas.Bool.{cases_lt, cases_Bool, eqb-true, eq-eqb, both_ways, false≢true, and_parts, and_from}
 use Rattle.protocol.specs.declared.holdings.Holding.{Holding}
 use Rattle.protocol.specs.declared.jobs.Job.{Job}
 use Rattle.protocol.specs.Holdings.{waits}
-use Rattle.protocol.specs.Lists.{is_some, In}
+use Rattle.protocol.specs.Lists.{In}
 use Rattle.protocol.specs.Model.{Model, job_at}
 use Rattle.protocol.specs.Places.{has}
 use Rattle.protocol.specs.Ranks.{Acyclic, Ringless}
@@ -32,7 +33,7 @@ holder_runs : (jobs : List (Option Job)) (hs : List Holding) → Within 8 job_of
 holder_runs jobs hs w h i = room_some (get_or jobs h.job None) (omega (arith, w h.job, counted hs h i))
 
 module _ (m : Model) (long : length m.jobs ≡ 16) (w : Within 8 job_of_holding m.jobs m.holdings) (ringless : Ringless m.holdings) where
-  pub ready_here : (p : ℕ) → is_free m p ≡ true → Ready m (Some p)
+  ready_here : (p : ℕ) → is_free m p ≡ true → Ready m (Some p)
   ready_here p e =
       let b = and_parts (is_some (job_at m p)) (eqb (waits m.holdings p) 0) e in
       (b.0, λ k v. none_in k (subst (λ n. has n k ≡ true) (eqb-true (waits m.holdings p) 0 b.1) (why_waits m.holdings p k v)))
@@ -54,5 +55,10 @@ module _ (m : Model) (long : length m.jobs ≡ 16) (w : Within 8 job_of_holding 
             | inr h ↦ stuck x.0 (ap (λ q. is_some (job_at m q)) (sym h.2) ∙ holder_runs m.jobs m.holdings w h.0 h.1) x.1
           ]
 
-  pub ready_none : ((q : ℕ) → q < 16 → is_free m q ≡ false) → Ready m None
+  ready_none : ((q : ℕ) → q < 16 → is_free m q ≡ false) → Ready m None
   ready_none f = λ p. elim (cases_Bool (is_some (job_at m p))) [ inl r ↦ absurd (none_runs f p r) | inr r ↦ r ]
+
+  -- what a search of the places found
+  pub ready_is : (r : Option ℕ) → MatchOption r ((q : ℕ) → 0 ≤ q → q < 16 → is_free m q ≡ false) (λ p. (0 ≤ p) × (p < 16) × (is_free m p ≡ true) × ((q : ℕ) → 0 ≤ q → q < p → is_free m q ≡ false)) → Ready m r
+  ready_is None f = ready_none (λ q l. f q (omega arith) l)
+  ready_is (Some p) f = ready_here p f.2

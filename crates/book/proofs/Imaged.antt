@@ -1,33 +1,34 @@
 -- A book after an image.
-use Rattle.std.proofs.Common.{◌≡◌, ℕ, suc, ◌<◌, ◌≤◌, Bool, true, false, cond, ◌&&◌, ◌||◌, eqb, List, [], ◌∷◌, ◌++◌, map, length, get_or, is_some, Some, None, Ok, Err, Option, Result, sym, refl, ap, ◌∙◌, inl, inr, arith}
-use Rattle.std.proofs.lemmas.Bool.{false≢true, cases_lt, le-ltb, lt-ltb}
+use Rattle.std.proofs.Common.{◌≡◌, ℕ, suc, ◌<◌, Bool, true, false, cond, ◌&&◌, ◌||◌, eqb, List, [], ◌∷◌, ◌++◌, map, length, Some, Ok, Err, Option, Result, sym, refl, ap, ◌∙◌, arith}
+use Rattle.std.specs.Prelude.{filter}
+use Rattle.std.specs.List.{list_any}
+use Rattle.std.proofs.lemmas.Bool.{false≢true}
 use Rattle.terms.specs.declared.calls.Call.TheVariants.{Image}
 use Rattle.protocol.specs.declared.holdings.Holding.{Holding}
 use Rattle.protocol.specs.declared.jobs.Job.{Job}
 use Rattle.protocol.specs.declared.assumptions.Version.{Version}
 use Rattle.protocol.specs.Holdings.{position, holds, opened, turn}
 use Rattle.protocol.specs.Image.{version_by, image_barred}
-use Rattle.protocol.specs.Lists.{keep, any, first}
+use Rattle.protocol.specs.Lists.{first}
 use Rattle.protocol.specs.Lock.{no_live_job}
 use Rattle.protocol.specs.Model.{Model, executions_of, job_at}
 use Rattle.protocol.specs.Step.{answer, refusals, next}
 use Rattle.protocol.specs.declared.refusals.Refusal.{Refusal}
 use Rattle.protocol.specs.declared.refusals.Refusal.TheVariants.{NotOpen}
-use Rattle.terms.specs.Objects.{value_at}
 use Rattle.terms.specs.Rule.{Rule}
 use Rattle.tables.specs.Within.{Within, count, job_of_holding}
 use Rattle.tables.proofs.Rooms.{within_map}
 
 -- an object that is held has a place among those that the job holds
-pub position_within : (p o : ℕ) (hs : List Holding) → any (λ h. holds p o h && opened h.state) hs ≡ true → position p o hs < count job_of_holding p hs
+pub position_within : (p o : ℕ) (hs : List Holding) → list_any (λ h. holds p o h && opened h.state) hs ≡ true → position p o hs < count job_of_holding p hs
 unfolding position
 position_within p o [] e = absurd (false≢true e)
 position_within p o (h ∷ hs) e = go (eqb h.job p) (eqb h.object o) e (position_within p o hs)
   where
-    go : (a b : Bool) → ((a && b && opened h.state) || any (λ h. holds p o h && opened h.state) hs) ≡ true
-        → (any (λ h. holds p o h && opened h.state) hs ≡ true → position p o hs < count job_of_holding p hs)
+    go : (a b : Bool) → ((a && b && opened h.state) || list_any (λ h. holds p o h && opened h.state) hs) ≡ true
+        → (list_any (λ h. holds p o h && opened h.state) hs ≡ true → position p o hs < count job_of_holding p hs)
         → (elim a as (λ _. ℕ) [ true ↦ elim b as (λ _. ℕ) [ true ↦ 0 | false ↦ suc (position p o hs) ] | false ↦ position p o hs ])
-        < length (cond a (h ∷ keep (λ x. eqb (job_of_holding x) p) hs) (keep (λ x. eqb (job_of_holding x) p) hs))
+        < length (cond a (h ∷ filter (λ x. eqb (job_of_holding x) p) hs) (filter (λ x. eqb (job_of_holding x) p) hs))
     go true true e rec = omega arith
     go true false e rec = let k = rec e in omega arith
     go false b e rec = rec e
@@ -49,20 +50,6 @@ imaged_is r m p o n j hs vs a b c d =
     (d ∙ ap (λ (j : Option Job). m.versions ++ map (version_by r j o n) (executions_of p m)) (sym a) ∙ ap (λ n. m.versions ++ map (version_by r (job_at m p) o n) (executions_of p m)) b)
 
 -- ---- what a call has found
-pub present : (values : List ℕ) (o : ℕ) (r : Option ℕ) → r ≡ value_at values o → is_some r ≡ true → o < length values
-present values o r e s =
-    elim (cases_lt o (length values)) [
-      | inl l ↦ l
-      | inr l ↦ absurd (false≢true (ap (λ (b : Bool). is_some (cond b (Some (get_or values o 0)) None)) (sym (le-ltb o (length values) l)) ∙ sym (ap is_some e) ∙ s))
-    ]
-
-pub missing : (values : List ℕ) (o : ℕ) (r : Option ℕ) → r ≡ value_at values o → is_some r ≡ false → length values ≤ o
-missing values o r e s =
-    elim (cases_lt o (length values)) [
-      | inl l ↦ absurd (false≢true (sym s ∙ ap is_some e ∙ ap (λ (b : Bool). is_some (cond b (Some (get_or values o 0)) None)) (lt-ltb o (length values) l)))
-      | inr l ↦ l
-    ]
-
 pub not_found : (b : Bool) (x : Refusal) → ◌≡◌ {A = Result (Unit {0}) Refusal} (Err x) (cond b (Ok tt) (Err NotOpen)) → (b ≡ false) × (x ≡ NotOpen)
 not_found true x e = let z : ◌≡◌ {A = ℕ} 0 1 = cc in absurd (omega arith)
 not_found false x e = let q : x ≡ NotOpen = cc in (refl, q)

@@ -1,9 +1,6 @@
 pub mod Adding
-pub mod Pairs
-pub mod Searched
 pub mod Written
 pub mod Begun
-pub mod Empty
 pub mod New
 pub mod Places
 pub mod Locking

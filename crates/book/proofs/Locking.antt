@@ -1,14 +1,21 @@
 -- The answer to a lock, from its three groups of tests.
-use Rattle.std.proofs.Common.{◌≡◌, ℕ, ◌<◌, ◌≤◌, Bool, true, false, ltb, List, [], ◌∷◌, ◌++◌, length, Some, None, Option, sym, refl, ap, ◌∙◌, arith}
+use Rattle.std.proofs.Common.{◌≡◌, ℕ, ◌<◌, ◌≤◌, Bool, true, false, not, ltb, List, [], ◌∷◌, ◌++◌, length, Some, None, Option, sym, refl, ap, ◌∙◌, arith}
+use Rattle.std.specs.Prelude.{is_some}
+use Rattle.std.specs.List.{AllByRecursion}
 use Rattle.std.proofs.lemmas.Bool.{lt-ltb, le-ltb, ltb-false, leb-false, ne_eqb, eq-eqb, not-false}
-use Rattle.terms.specs.declared.calls.Call.TheVariants.{Lock}
+use Rattle.terms.specs.declared.calls.Call.{Call}
+use Rattle.terms.specs.declared.calls.Call.TheVariants.{Begin, Lock, Image, Commit, Abort}
 use Rattle.terms.specs.declared.modes.Mode.{Mode}
 use Rattle.protocol.specs.declared.refusals.Refusal.{Refusal}
-use Rattle.protocol.specs.declared.refusals.Refusal.TheVariants.{NoExecution, TooManyExecutions}
+use Rattle.protocol.specs.declared.refusals.Refusal.TheVariants.{NoSuchPlace, PlaceTaken, UnknownKind, NoJob, LostJob, NoExecution, TooManyExecutions}
 use Rattle.protocol.specs.Holdings.{locked, would_ring}
-use Rattle.protocol.specs.Lists.{first, is_some, All}
+use Rattle.protocol.specs.Begin.{is_known}
+use Rattle.protocol.specs.Ending.{commit_barred}
+use Rattle.protocol.specs.Image.{image_barred}
+use Rattle.protocol.specs.Past.{place_of}
+use Rattle.protocol.specs.Lists.{first, is_nil}
 use Rattle.protocol.specs.Lock.{no_live_job, lock_barred, lock_crowded}
-use Rattle.protocol.specs.Model.{Model, job_at, holding_count}
+use Rattle.protocol.specs.Model.{Model, job_at, holding_count, executions_of}
 use Rattle.protocol.specs.Pairing.{kept_pairs}
 use Rattle.protocol.specs.Step.{answer, refusals}
 use Rattle.terms.specs.Rule.{Rule}
@@ -33,13 +40,22 @@ module _ {A : Type 0} where
       go false e rec = rec e
 
   -- where none is refused, each test fails
-  pub first_passed : (ts : List (Bool × A)) → first ts ≡ None → All (λ t. t.0 ≡ false) ts
+  pub first_passed : (ts : List (Bool × A)) → first ts ≡ None → AllByRecursion (λ t. t.0 ≡ false) ts
   first_passed [] e = tt
   first_passed (t ∷ ts) e = go t.0 e (first_passed ts)
     where
-      go : (b : Bool) → (elim b as (λ _. Option A) [ true ↦ Some t.1 | false ↦ first ts ]) ≡ None → (first ts ≡ None → All (λ t. t.0 ≡ false) ts) → (b ≡ false) × All (λ t. t.0 ≡ false) ts
+      go : (b : Bool) → (elim b as (λ _. Option A) [ true ↦ Some t.1 | false ↦ first ts ]) ≡ None → (first ts ≡ None → AllByRecursion (λ t. t.0 ≡ false) ts) → (b ≡ false) × AllByRecursion (λ t. t.0 ≡ false) ts
       go true e rec = let z : ◌≡◌ {A = ℕ} 0 1 = cc in absurd (omega arith)
       go false e rec = (refl, rec e)
+
+-- the first test of every call is for its place
+pub no_place : (r : Rule) (m : Model) (c : Call) → 15 < place_of c → answer r m c ≡ Some NoSuchPlace
+unfolding answer refusals
+no_place r m (Begin p k a) l = ap (λ b. first ((b, NoSuchPlace) ∷ (is_some (job_at m p), PlaceTaken) ∷ (not (is_known r k), UnknownKind) ∷ [])) (lt-ltb 15 p l)
+no_place r m (Lock p o mode) l = ap (λ b. first ((b, NoSuchPlace) ∷ (not (is_some (job_at m p)), NoJob) ∷ (is_nil (executions_of p m), LostJob) ∷ lock_barred m p o mode ++ lock_crowded r m p o mode)) (lt-ltb 15 p l)
+no_place r m (Image p o) l = ap (λ b. first ((b, NoSuchPlace) ∷ (not (is_some (job_at m p)), NoJob) ∷ (is_nil (executions_of p m), LostJob) ∷ image_barred m p o)) (lt-ltb 15 p l)
+no_place r m (Commit p) l = ap (λ b. first ((b, NoSuchPlace) ∷ (not (is_some (job_at m p)), NoJob) ∷ (is_nil (executions_of p m), LostJob) ∷ commit_barred m p)) (lt-ltb 15 p l)
+no_place r m (Abort p) l = ap (λ b. first ((b, NoSuchPlace) ∷ (not (is_some (job_at m p)), NoJob) ∷ [])) (lt-ltb 15 p l)
 
 module _ (r : Rule) (m : Model) (p o : ℕ) (mode : Mode) where
   tests : answer r m (Lock p o mode) ≡ first (no_live_job m p ++ lock_barred m p o mode ++ lock_crowded r m p o mode)
@@ -78,7 +94,7 @@ module _ (r : Rule) (m : Model) (p o : ℕ) (mode : Mode) where
 
   pub taken : answer r m (Lock p o mode) ≡ None → Taken
   taken e =
-      let a : All (λ (t : Bool × Refusal). t.0 ≡ false) (no_live_job m p ++ lock_barred m p o mode ++ lock_crowded r m p o mode) = first_passed (no_live_job m p ++ lock_barred m p o mode ++ lock_crowded r m p o mode) (sym tests ∙ e) in
+      let a : AllByRecursion (λ (t : Bool × Refusal). t.0 ≡ false) (no_live_job m p ++ lock_barred m p o mode ++ lock_crowded r m p o mode) = first_passed (no_live_job m p ++ lock_barred m p o mode ++ lock_crowded r m p o mode) (sym tests ∙ e) in
       let h = ltb-false 15 p a.0 in
       record {
         place = omega arith;

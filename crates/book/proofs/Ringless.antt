@@ -1,16 +1,16 @@
 -- A book stays without a ring of waiting jobs.
 use Rattle.std.proofs.Common.{◌≡◌, ℕ, false, not, eqb, List, [], ◌∷◌, ◌++◌, map, sym, subst}
+use Rattle.std.specs.Prelude.{filter}
 use Rattle.protocol.specs.declared.holdings.Holding.{Holding}
 use Rattle.protocol.specs.Holdings.{would_ring, turn}
-use Rattle.protocol.specs.Lists.{keep}
 use Rattle.protocol.specs.Ranks.{Acyclic, Ringless}
 use Rattle.protocol.specs.RingTest.{OfPlaces}
 use Rattle.protocol.proofs.Ranks.{acyclic_fewer, acyclic_push}
 use Rattle.protocol.proofs.Waiting.{waits_rest, waits_turn}
 
 -- a job's holdings go
-pub ringless_left : (hs : List Holding) (k : ℕ) (gs : List Holding) → gs ≡ keep (λ h. not (eqb h.job k)) hs → Ringless hs → Ringless gs
-ringless_left hs k gs is old = λ none. old (λ c. none (subst Acyclic (sym is) (acyclic_fewer hs (keep (λ h. not (eqb h.job k)) hs) (waits_rest k hs) c)))
+pub ringless_left : (hs : List Holding) (k : ℕ) (gs : List Holding) → gs ≡ filter (λ h. not (eqb h.job k)) hs → Ringless hs → Ringless gs
+ringless_left hs k gs is old = λ none. old (λ c. none (subst Acyclic (sym is) (acyclic_fewer hs (filter (λ h. not (eqb h.job k)) hs) (waits_rest k hs) c)))
 
 -- a holding is turned
 pub ringless_turned : (hs : List Holding) (p o : ℕ) (gs : List Holding) → gs ≡ map (turn p o) hs → Ringless hs → Ringless gs

@@ -1,5 +1,7 @@
 -- A run, one call after another.
-use Rattle.std.proofs.Common.{◌≡◌, List, [], ◌∷◌, Some, None, Ok, Err, Option, Result, sym, refl, ap, ◌∙◌}
+use Rattle.std.proofs.Common.{◌≡◌, List, [], ◌∷◌, Some, None, Ok, Err, Option, Result, sym, refl, ap, ◌∙◌, subst}
+use Rattle.std.specs.Result.{IsErrAnd}
+use Rattle.std.proofs.lemmas.Result.{err_from_is_err_and}
 use Rattle.terms.specs.declared.calls.Call.{Call}
 use Rattle.protocol.specs.declared.refusals.Refusal.{Refusal}
 use Rattle.protocol.specs.Model.{Model}
@@ -22,3 +24,7 @@ run_more r m c cs = refl
 pub run_none : (r : Rule) (m : Model) → run r m [] ≡ m
 unfolding run
 run_none r m = refl
+
+-- a call whose refusal is passed on leaves all as it was
+pub refused : (r : Rule) (m : Model) (c : Call) (result : Result (Unit {0}) Refusal) (e : Refusal) → IsErrAnd result (λ y. y ≡ e) → answer r m c ≡ Some e → Follows r m c result m
+refused r m c result e is a = let q = err_from_is_err_and result is in subst (λ x. Follows r m c x m) (sym q.1) (a ∙ ap Some (sym q.2), refl)

@@ -1,5 +1,8 @@
 -- What a job made, found and written.
-use Rattle.std.proofs.Common.{◌≡◌, ℕ, ◌+◌, ◌<◌, Bool, true, false, ◌&&◌, eqb, List, [], ◌∷◌, ◌++◌, length, get_or, drop, set, sym, refl, ap, ◌∙◌}
+use Rattle.std.proofs.Common.{◌≡◌, ℕ, ◌+◌, ◌<◌, Bool, true, false, ◌&&◌, eqb, cond, List, [], ◌∷◌, ◌++◌, length, get_or, drop, set, Some, None, Option, Bor, sym, refl, ap, ◌∙◌}
+use Rattle.std.specs.Prelude.{MatchOption}
+use Rattle.std.specs.List.{find}
+use Rattle.std.specs.Option.{option_map, option_map_or}
 use Rattle.std.proofs.lemmas.List.{at_drop_more}
 use Rattle.terms.specs.declared.calls.Call.TheVariants.{Commit}
 use Rattle.protocol.specs.declared.jobs.Ending.TheVariants.{Committed}
@@ -13,19 +16,23 @@ use Rattle.protocol.specs.Model.{Model}
 use Rattle.protocol.specs.Settling.{settle}
 use Rattle.protocol.specs.Step.{answer, refusals, next}
 use Rattle.terms.specs.Rule.{Rule}
-use Rattle.book.specs.Blanks.{no_version}
-use Rattle.book.specs.Blanks.{no_holding}
+use Rattle.protocol.specs.Empty.{no_holding}
 
-module _ (p o d : ℕ) (vs : List Version) (i : ℕ) (l : i < length vs) where
-  at : (b : Bool) → (eqb (get_or vs i no_version).maker p && eqb (get_or vs i no_version).object o) ≡ b
-      → made_value p o (drop i vs) d ≡ (elim b as (λ _. ℕ) [ true ↦ (get_or vs i no_version).value | false ↦ made_value p o (drop (i + 1) vs) d ])
-  at b e = at_drop_more (λ vs. made_value p o vs d) vs i no_version l ∙ ap (λ b. elim b as (λ _. ℕ) [ true ↦ (get_or vs i no_version).value | false ↦ made_value p o (drop (i + 1) vs) d ]) e
+-- what is read of a version that was found, or else another value
+pub or_else : (Reads : Bor Version → Type 0) (r : Option (Bor Version)) (other result : ℕ) → MatchOption r (result ≡ other) Reads → ((v : Bor Version) → Reads v → result ≡ v.now.value)
+    → result ≡ option_map_or (λ v. v.value) (option_map (λ y. y.now) r) other
+or_else Reads None other result e f = e
+or_else Reads (Some v) other result e f = f v e
 
-  pub made_here : (eqb (get_or vs i no_version).maker p && eqb (get_or vs i no_version).object o) ≡ true → made_value p o (drop i vs) d ≡ (get_or vs i no_version).value
-  made_here e = at true e
-
-  pub made_later : (eqb (get_or vs i no_version).maker p && eqb (get_or vs i no_version).object o) ≡ false → made_value p o (drop i vs) d ≡ made_value p o (drop (i + 1) vs) d
-  made_later e = at false e
+-- the value that counts is that of the first version by the job of the object
+pub found : (p o d : ℕ) (vs : List Version) → option_map_or (λ v. v.value) (find (λ (v : Version). eqb v.maker p && eqb v.object o) vs) d ≡ made_value p o vs d
+found p o d [] = refl
+found p o d (v ∷ vs) = go (eqb v.maker p && eqb v.object o) (found p o d vs)
+  where
+    go : (b : Bool) → option_map_or (λ v. v.value) (find (λ (v : Version). eqb v.maker p && eqb v.object o) vs) d ≡ made_value p o vs d
+        → option_map_or (λ v. v.value) (cond b (Some v) (find (λ (v : Version). eqb v.maker p && eqb v.object o) vs)) d ≡ (elim b as (λ _. ℕ) [ true ↦ v.value | false ↦ made_value p o vs d ])
+    go true e = refl
+    go false e = e
 
 pub written_none : (p : ℕ) (vs : List Version) (xs : List ℕ) → written p vs [] xs ≡ xs
 unfolding written

@@ -1,4 +1,3 @@
-pub mod Blanks
 pub mod Meeting
 pub mod Questions
 pub mod View

@@ -6,10 +6,10 @@ use Rattle.protocol.specs.declared.assumptions.Offer.{Offer}
 use Rattle.protocol.specs.declared.refusals.Refusal.{Refusal}
 use Rattle.protocol.specs.declared.refusals.Refusal.TheVariants.{TooManyExecutions}
 use Rattle.protocol.specs.Pairing.{pair}
-use Rattle.book.specs.declared.meeting.Request.{Request}
+use Rattle.book.specs.declared.request.Request.{Request}
 
 -- the pair of the two, for a lock that is asked for
-abbrev pub meeting : Rule → Request → Execution → Offer → Execution
+abbrev pub meeting : {R : Type 0} → Rule → Request R → Execution → Offer → Execution
 meeting r q = pair q.held (λ work met. r.take q.job.kind q.job.argument work q.object q.mode met)
 
 -- to add kept pairs behind those that are there: all are added and stay within the limit, or they would be too many

@@ -1,8 +1,7 @@
 -- What the questions answer.
-use Rattle.std.specs.Prelude.{ℕ, cond, List, [], ◌∷◌, map, length, Some, None, nat_lt, slice_index}
+use Rattle.std.specs.Prelude.{ℕ, cond, List, [], ◌∷◌, map, length, Some, None, nat_lt, slice_index, filter}
 use Rattle.protocol.specs.declared.assumptions.Version.{Version}
 use Rattle.protocol.specs.Assumptions.{assume}
-use Rattle.protocol.specs.Lists.{keep}
 use Rattle.protocol.specs.Model.{Model}
 use Rattle.protocol.specs.Pairing.{of_object}
 use Rattle.book.specs.declared.state.questions.ObjectVersion.{ObjectVersion}
@@ -17,4 +16,4 @@ stored_version value = record { maker = None; value = value; assumes = assume 0 
 
 -- the versions of an object, in order: the stored value, then those by running jobs; none where there is no such object
 abbrev pub object_versions : Model → ℕ → List ObjectVersion
-object_versions m o = cond (nat_lt o (length m.values)) (stored_version (slice_index m.values o) ∷ map made_version (keep (of_object o) m.versions)) []
+object_versions m o = cond (nat_lt o (length m.values)) (stored_version (slice_index m.values o) ∷ map made_version (filter (of_object o) m.versions)) []

@@ -1,8 +1,7 @@
 -- The ready question: some running job that waits for none, or none where no job runs.
-use Rattle.std.specs.Prelude.{◌≡◌, ℕ, Bool, true, false, ◌&&◌, List, Option, MatchOption, ◌==◌}
+use Rattle.std.specs.Prelude.{◌≡◌, ℕ, Bool, true, false, ◌&&◌, List, Option, MatchOption, ◌==◌, is_some}
 use Rattle.protocol.specs.declared.holdings.Holding.{Holding}
 use Rattle.protocol.specs.Holdings.{waits}
-use Rattle.protocol.specs.Lists.{is_some}
 use Rattle.protocol.specs.Model.{Model, job_at}
 use Rattle.protocol.specs.Waiting.{WaitsFor}
 

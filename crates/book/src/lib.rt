@@ -6,6 +6,8 @@ mod meeting;
 mod offering;
 mod outcome;
 mod pairing;
+mod place;
+mod request;
 mod running;
 mod searching;
 pub mod state;

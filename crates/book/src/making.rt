@@ -1,39 +1,63 @@
 // What an execution makes.
-ghost use Rattle.std.specs.Prelude.{◌≡◌, ◌<◌, Some};
+ghost use Rattle.std.specs.Prelude.{◌≡◌, ℕ, ◌<◌, ◌≤◌, List, map, length, Some, filter};
 ghost use Rattle.protocol.specs.Image.{version_by};
+ghost use Rattle.protocol.specs.Model.{names};
+ghost use Rattle.tables.specs.Items.{items};
 
+use super::place::Place;
 use protocol::{Assumption, Execution, Job, PlaceSet, Version};
+use tables::Table;
 use terms::JobRule;
 
-// The version of an object, the `met`-th that the job holds, by one of its executions.
-pub(crate) fn version_of<R: JobRule>(
-    rule: &R,
-    job: Job,
-    object: u64,
-    met: usize,
-    execution: &Execution,
-) -> Version
-    requires { (met < 8) × (execution.now.job < 16) }
-    ensures { result ≡ version_by (R.JobRule.means rule.now) (Some job) object met execution.now }
-{
-    let value = rule.give(
-        job.kind,
-        job.argument,
-        execution.work,
-        object,
-        execution.met[met],
-    );
-    let assumption = Assumption {
-        commits: execution
-            .assumes
-            .commits
-            .joined(PlaceSet::only(execution.job)),
-        aborts: execution.assumes.aborts,
-    };
-    Version {
-        object,
-        maker: execution.job,
-        value,
-        assumes: assumption,
+// An image that is asked for, with what is the same for all executions of its job.
+#[derive(Drop)]
+pub(crate) struct Making<'a, R> {
+    pub rule: &'a R,
+    pub place: Place,
+    pub job: Job,
+    pub object: u64,
+    // where the object stands among those that the job holds
+    pub met: usize,
+    ghost held: { met < 8 },
+}
+
+impl<R: JobRule> Making<'_, R> {
+    // The version by one execution of the job.
+    fn version(&self, execution: &Execution) -> Version
+        requires { execution.now.job ≡ self.now.place.number }
+        ensures { result ≡ version_by (R.JobRule.means self.now.rule.now) (Some self.now.job) self.now.object self.now.met execution.now }
+    {
+        let value = self.rule.give(
+            self.job.kind,
+            self.job.argument,
+            execution.work,
+            self.object,
+            execution.met[self.met],
+        );
+        let own = PlaceSet::only(execution.job);
+        Version {
+            object: self.object,
+            maker: execution.job,
+            value,
+            assumes: Assumption {
+                commits: execution.assumes.commits.joined(own),
+                ..execution.assumes
+            },
+        }
+    }
+
+    // The versions by the job's executions, in order.
+    pub(crate) fn versions(&self, executions: &[Execution]) -> Table<Version, 16>
+        requires { length (filter (names self.now.place.number) executions.now) ≤ 16 }
+        ensures { items result ≡ map (version_by (R.JobRule.means self.now.rule.now) (Some self.now.job) self.now.object self.now.met) (filter (names self.now.place.number) executions.now) }
+    {
+        let mut all = Table::new(Version::EMPTY);
+        // a loop over a filter gets no proof in a generic function
+        for execution in executions {
+            if execution.job == self.place.number {
+                all.push(self.version(execution)).unwrap();
+            }
+        }
+        all
     }
 }

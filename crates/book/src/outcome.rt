@@ -1,4 +1,7 @@
 // What a run of calls leaves to its caller.
+ghost use Rattle.std.specs.Prelude.{◌≡◌};
+ghost use Rattle.book.specs.declared.outcome.RunError.TheVariants.{Refused, OutOfMemory};
+
 use super::state::Book;
 use protocol::Refusal;
 use std::alloc::AllocError;
@@ -13,8 +16,24 @@ pub struct Run {
 }
 
 // Why there was no run.
-#[derive(Clone, Copy)]
+#[derive(Clone, Copy, PartialEq, Eq, Debug)]
 pub enum RunError {
     Refused(Refusal),
     OutOfMemory,
+}
+
+impl From<Refusal> for RunError {
+    ghost from_gives = { λ refusal error. error ≡ Refused refusal };
+
+    fn from(refusal: Refusal) -> RunError {
+        RunError::Refused(refusal)
+    }
+}
+
+impl From<AllocError> for RunError {
+    ghost from_gives = { λ _ error. error ≡ OutOfMemory };
+
+    fn from(_error: AllocError) -> RunError {
+        RunError::OutOfMemory
+    }
 }

@@ -7,6 +7,7 @@ use super::state::Book;
 use std::alloc::Global;
 use terms::{Call, JobRule, Store};
 
+// Six parameters, not a struct: users read the call and its two clauses as they stand.
 // Makes a book and carries out the calls in order. Memory for the answers is taken before the first, so without it nothing has changed.
 pub fn run<S: Store, R: JobRule>(
     heap: Global,
@@ -19,13 +20,8 @@ pub fn run<S: Store, R: JobRule>(
     ensures law { MatchResult result (λ done. RunLaw (R.JobRule.means rule.now) robustness (S.Store.values store.old) calls.now (S.Store.values store.new) done) (λ e. NotRun robustness limit e × (store.new ≡ store.old)) }
     ensures model { MatchResult result (λ done. RunFollows (R.JobRule.means rule.now) robustness limit (S.Store.values store.old) calls.now (S.Store.values store.new) done) (λ e. NotRun robustness limit e × (store.new ≡ store.old)) }
 {
-    let mut book = match Book::new(robustness, limit) {
-        Ok(book) => book,
-        Err(refusal) => return Err(RunError::Refused(refusal)),
-    };
-    let Ok(mut answers) = Vec::with_capacity(heap, calls.len()) else {
-        return Err(RunError::OutOfMemory);
-    };
+    let mut book = Book::new(robustness, limit)?;
+    let mut answers = Vec::with_capacity(heap, calls.len())?;
     book.carry_out(store, rule, calls, &mut answers);
     let ready = book.ready();
     Ok(Run {

@@ -1,4 +1,4 @@
-// The book, and what always holds of it.
+// The book, and what always holds of it. It keeps neither store nor rule: each call is given both, and its place, object and mode, as users write them.
 ghost use Rattle.std.specs.Prelude.{◌≡◌, ℕ, ◌≤◌, List, length};
 ghost use Rattle.protocol.specs.declared.assumptions.Execution.{Execution};
 ghost use Rattle.protocol.specs.declared.holdings.Holding.{Holding};

@@ -6,31 +6,20 @@ ghost use Rattle.protocol.specs.Holdings.{held_by, turned};
 use protocol::{Holding, HoldingState, Version};
 use terms::Store;
 
-fn is_made(version: &Version, place: u8, object: u64) -> bool
-    ensures { result ≡ (version.now.maker == place && version.now.object == object) }
-{
-    version.maker == place && version.object == object
-}
-
 // The value of the job's version of an object, or else `other`.
 fn made_or(versions: &[Version], place: u8, object: u64, other: u64) -> u64
     ensures { result ≡ made_value place object versions.now other }
 {
-    for version in versions {
-        if is_made(version, place, object) {
-            return version.value;
-        }
-    }
-    other
+    versions
+        .iter()
+        .find(|version| version.maker == place && version.object == object)
+        .map_or(other, |version| version.value)
 }
 
 fn is_turned(holding: &Holding, place: u8) -> bool
     ensures { result ≡ (held_by place holding.now && turned holding.now.state) }
 {
-    match holding.state {
-        HoldingState::Turned => holding.job == place,
-        HoldingState::Reading | HoldingState::Open => false,
-    }
+    holding.job == place && holding.state == HoldingState::Turned
 }
 
 fn write_one<S: Store>(store: &mut S, versions: &[Version], place: u8, object: u64)
@@ -50,6 +39,7 @@ pub(crate) fn write_made<S: Store>(
 )
     ensures { S.Store.values store.new ≡ written place versions.now holdings.now (S.Store.values store.old) }
 {
+    // a loop over a filter gets no proof in a generic function
     for holding in holdings {
         if is_turned(holding, place) {
             write_one(store, versions, place, holding.object);

@@ -1,4 +1,3 @@
-pub mod Digits
 pub mod Joins
 pub mod Turns
 pub mod Steps

@@ -3,6 +3,7 @@ use Rattle.std.proofs.Common.{◌≡◌, ℕ, ◌+◌, ◌-◌, ◌<◌, ◌≤�
 use Rattle.std.specs.List.{join_with_byte, AllByRecursion}
 use Rattle.std.specs.Str.Iter.{LacksByte}
 use Rattle.std.proofs.lemmas.List.{append_assoc, append-nil, take_at, drop_at, take_more, take_all}
+use Rattle.std.proofs.lemmas.Simd.{map-map}
 use Rattle.std.proofs.lemmas.Bool.{and_parts, ltb-true, eqb-true}
 use Rattle.fields.specs.Cut.{pieces}
 use Rattle.fields.specs.Laws.{texts, last_mark, LinesJoinToTheScript, FieldsJoinToTheirLines, Stands, FieldsStandInTheScript}
@@ -67,12 +68,10 @@ texts_placed n (w ∷ ws) = ap (λ l. w ∷ l) (texts_placed (n + (length w + 1)
 pub lines_join : LinesJoinToTheScript 10
 lines_join s = ap (λ ws. join_with_byte 10 ws ++ last_mark 10 s) (texts_placed 0 (pieces 10 (body s))) ∙ ap (λ t. t ++ last_mark 10 s) (whole 10 (body s)) ∙ body_parts s
 
-fields_join : (ls : List Word) → map (λ row. join_with_byte 44 (texts row)) (map (words 44) ls) ≡ texts ls
-fields_join [] = refl
-fields_join (l ∷ ls) = λ i. (ap (join_with_byte 44) (texts_placed l.at (pieces 44 l.text)) ∙ whole 44 l.text) i ∷ fields_join ls i
-
 pub fields_join_to_their_lines : FieldsJoinToTheirLines 44
-fields_join_to_their_lines s = fields_join (lines_of s)
+fields_join_to_their_lines s =
+    map-map (λ row. join_with_byte 44 (texts row)) (words 44) (lines_of s)
+    ∙ (λ i. map (λ l. (ap (join_with_byte 44) (texts_placed l.at (pieces 44 l.text)) ∙ whole 44 l.text) i) (lines_of s))
 
 all_placed : (P : List ℕ → Type 0) (n : ℕ) (ws : List (List ℕ)) → AllByRecursion P ws → AllByRecursion (λ (w : Word). P w.text) (placed n ws)
 all_placed P n [] h = tt

@@ -2,24 +2,18 @@
 --   before m xs   the bytes before the first m
 --   after m xs    the bytes after the first m, if there is one
 --   pieces m xs   the parts between the marks: one more than there are marks
-use Rattle.std.specs.Prelude.{ℕ, cond, List, [], ◌∷◌, Some, None, Option, ◌==◌}
+use Rattle.std.specs.Prelude.{ℕ, ◌+◌, List, drop, Option, ◌==◌, position}
+use Rattle.std.specs.List.{before_first, slice_split}
+use Rattle.std.specs.Option.{option_map}
 
 -- the bytes before the first m
 abbrev pub before : ℕ → List ℕ → List ℕ
-before m [] = []
-before m (x ∷ xs) = cond (x == m) [] (x ∷ before m xs)
+before m xs = before_first (λ x. x == m) xs
 
 -- the bytes after the first m, if there is one
 abbrev pub after : ℕ → List ℕ → Option (List ℕ)
-after m [] = None
-after m (x ∷ xs) = cond (x == m) (Some xs) (after m xs)
-
--- x put in front of the first piece
-abbrev pub onto : ℕ → List (List ℕ) → List (List ℕ)
-onto x [] = (x ∷ []) ∷ []
-onto x (w ∷ ws) = (x ∷ w) ∷ ws
+after m xs = option_map (λ i. drop (i + 1) xs) (position (λ x. x == m) xs)
 
 -- the parts between the marks
 abbrev pub pieces : ℕ → List ℕ → List (List ℕ)
-pieces m [] = [] ∷ []
-pieces m (x ∷ xs) = cond (x == m) ([] ∷ pieces m xs) (onto x (pieces m xs))
+pieces m xs = slice_split (λ x. x == m) xs

@@ -1,22 +1,16 @@
 // Cuts a text at a mark: a script at its line feeds, a line at its commas.
-ghost use Rattle.std.specs.Prelude.{◌≡◌, ◌^◌, ◌<◌, map, length, IfSome, IfOk};
+ghost use Rattle.std.specs.Prelude.{◌≡◌, ◌^◌, ◌<◌, ◌==◌, position, map, length, IfSome, IfOk};
 ghost use Rattle.std.specs.Option.{option_map};
-ghost use Rattle.fields.specs.Cut.{before};
 ghost use Rattle.fields.specs.Places.{word_of, row_of, end_of, first_word, rest_word, words, lines_of, rows_of};
 
 use super::parts::Field;
 use std::alloc::{AllocError, Global};
 
-// How many bytes stand before the first mark.
-fn find(text: &[u8], mark: u8) -> usize
-    ensures { result ≡ length (before mark text.now) }
+// The place of the first mark.
+fn find(text: &[u8], mark: u8) -> Option<usize>
+    ensures { result ≡ position (λ byte. byte == mark) text.now }
 {
-    for (i, byte) in text.iter().enumerate() {
-        if *byte == mark {
-            return i;
-        }
-    }
-    text.len()
+    text.iter().position(|byte| *byte == mark)
 }
 
 // What stands before the first mark, and what stands after it.
@@ -26,22 +20,24 @@ fn cut<'a>(text: Field<'a>, mark: u8) -> (Field<'a>, Option<Field<'a>>)
     ensures back { option_map word_of result.1 ≡ rest_word mark (word_of text.entry) }
     ensures inside { IfSome result.1 (λ f. (end_of (word_of f) ≡ end_of (word_of text.entry)) × (length f.bytes.now < length text.entry.bytes.now)) }
 {
-    let end = find(text.bytes, mark);
-    if end >= text.bytes.len() {
-        return (text, None);
+    match find(text.bytes, mark) {
+        None => (text, None),
+        Some(end) => {
+            let front = Field {
+                bytes: &text.bytes[..end],
+                at: text.at,
+            };
+            let rest = Field {
+                bytes: &text.bytes[end + 1..],
+                at: text.at + end + 1,
+            };
+            (front, Some(rest))
+        }
     }
-    let front = Field {
-        bytes: &text.bytes[0..end],
-        at: text.at,
-    };
-    let rest = Field {
-        bytes: &text.bytes[end + 1..],
-        at: text.at + end + 1,
-    };
-    (front, Some(rest))
 }
 
 // The parts of a text between its marks.
+// `split` gives no places, and a running count of them passes the last part, where it may not fit.
 fn pieces<'a>(heap: Global, text: Field<'a>, mark: u8) -> Result<Vec<Field<'a>>, AllocError>
     requires { end_of (word_of text) < 2 ^ 64 }
     ensures { IfOk result (λ v. map word_of v.items ≡ words mark (word_of text.entry)) }
@@ -71,10 +67,8 @@ pub fn lines(heap: Global, script: &[u8]) -> Result<Vec<Field<'_>>, AllocError>
 pub fn rows(heap: Global, script: &[u8]) -> Result<Vec<Vec<Field<'_>>>, AllocError>
     ensures { IfOk result (λ v. map row_of v.items ≡ rows_of script.now) }
 {
-    let all = lines(heap, script)?;
-    let mut cut = Vec::new(heap);
-    for line in all.as_slice() {
-        cut.push(pieces(heap, *line, b',')?)?;
-    }
-    Ok(cut)
+    lines(heap, script)?
+        .iter()
+        .map(|line| pieces(heap, *line, b','))
+        .try_collect(heap)
 }

@@ -1,13 +1,15 @@
 -- One more holding: its job waits for those in its way besides, and nobody else for more.
 use Rattle.std.proofs.Common.{◌≡◌, ℕ, ◌+◌, ◌<◌, ◌≤◌, Bool, true, false, cond, not, ◌&&◌, ◌||◌, eqb, List, [], ◌∷◌, ◌++◌, length, get_or, take, set, replicate, sym, refl, ap, ◌∙◌, ap₂, inl, inr, arith}
+use Rattle.std.specs.List.{list_any}
 use Rattle.std.proofs.lemmas.List.{take_more, length-set, length-replicate, get_or-replicate, get_or-set_same, get_or-set_other}
+use Rattle.std.proofs.lemmas.List.Folds.{list_any-append}
+use Rattle.std.proofs.Math.Bool.{and-false, or-false}
 use Rattle.std.proofs.lemmas.Bool.{cases_eq, eqb-true, eq-eqb, ne_eqb}
 use Rattle.protocol.specs.declared.holdings.Holding.{Holding}
 use Rattle.protocol.specs.declared.places.PlaceSet.{PlaceSet}
 use Rattle.protocol.specs.Holdings.{waits, new_waits, jobs_of, clash}
-use Rattle.protocol.specs.Lists.{any}
 use Rattle.protocol.specs.Places.{single, join, placed}
-use Rattle.holders.specs.Placed.{blank}
+use Rattle.protocol.specs.Empty.{no_holding}
 use Rattle.holders.specs.Sets.{nobody, mask_at, blocks}
 use Rattle.holders.proofs.Joins.{join_none, none_join, join_self, join_across, placed_join, placed_zero, placed_cond}
 use Rattle.holders.proofs.Sets.{waits_none, waits_more}
@@ -20,21 +22,8 @@ new_more : (h g : Holding) (gs : List Holding) → new_waits (g ∷ gs) h ≡ jo
 unfolding new_waits jobs_of
 new_more h g gs = refl
 
-any_push : {X : Type 0} (t : X → Bool) (xs : List X) (y : X) → any t (xs ++ y ∷ []) ≡ (any t xs || t y)
-any_push t [] y = or_none (t y)
-  where
-    or_none : (b : Bool) → (b || false) ≡ b
-    or_none true = refl
-    or_none false = refl
-any_push t (x ∷ xs) y = next (t x) (any t xs) (any_push t xs y)
-  where
-    next : {b : Bool} (a c : Bool) → b ≡ (c || t y) → (a || b) ≡ ((a || c) || t y)
-    next true c e = refl
-    next false c e = e
-
-and_none : (a : Bool) → (a && false) ≡ false
-and_none true = refl
-and_none false = refl
+any_push : {X : Type 0} (t : X → Bool) (xs : List X) (y : X) → list_any t (xs ++ y ∷ []) ≡ (list_any t xs || t y)
+any_push t xs y = list_any-append t xs (y ∷ []) ∙ ap (λ b. list_any t xs || b) (or-false (t y))
 
 -- a set under one of two tests
 either : (a b c : Bool) (s : ℕ) → cond (a && (b || c)) s 0 ≡ join (cond (a && b) s 0) (cond (a && c) s 0)
@@ -61,18 +50,18 @@ module _ (h : Holding) (p : ℕ) where
       go : (b : Bool) → eqb h.job p ≡ b → join (cond (not (eqb g.job p) && (b && clash g h)) (single g.job) 0) (cond b (new_waits gs h) 0) ≡ cond b (new_waits (g ∷ gs) h) 0
       go true e =
           ap (λ q. join (cond (not (eqb g.job q) && clash g h) (single g.job) 0) (new_waits gs h)) (sym (eqb-true h.job p e)) ∙ sym (new_more h g gs)
-      go false e = ap (λ b. join (cond b (single g.job) 0) 0) (and_none (not (eqb g.job p))) ∙ none_join 0
+      go false e = ap (λ b. join (cond b (single g.job) 0) 0) (and-false (not (eqb g.job p))) ∙ none_join 0
 
   -- the jobs for which job p waits once h is locked
   pub waits_push : (gs : List Holding) → waits (gs ++ h ∷ []) p ≡ join (waits gs p) (cond (eqb h.job p) (new_waits gs h) 0)
   waits_push [] =
-      waits_more p h [] ∙ ap₂ join (ap (λ b. cond b (single h.job) 0) (and_none (not (eqb h.job p)))) (waits_none p)
+      waits_more p h [] ∙ ap₂ join (ap (λ b. cond b (single h.job) 0) (and-false (not (eqb h.job p)))) (waits_none p)
       ∙ sym (ap₂ join (waits_none p) by_none)
   waits_push (g ∷ gs) =
       let t : Holding → Bool = λ k. eqb k.job p && clash g k in
       let own : Bool = not (eqb g.job p) in
       let first : cond (blocks p g (gs ++ h ∷ [])) (single g.job) 0 ≡ join (cond (blocks p g gs) (single g.job) 0) (cond (own && t h) (single g.job) 0) =
-      ap (λ b. cond (own && b) (single g.job) 0) (any_push t gs h) ∙ either own (any t gs) (t h) (single g.job) in
+      ap (λ b. cond (own && b) (single g.job) 0) (any_push t gs h) ∙ either own (list_any t gs) (t h) (single g.job) in
       waits_more p g (gs ++ h ∷ []) ∙ ap₂ join first (waits_push gs)
       ∙ join_across (cond (blocks p g gs) (single g.job) 0) (cond (own && t h) (single g.job) 0) (waits gs p) (by gs)
       ∙ ap₂ join (sym (waits_more p g gs)) (by_more g gs)
@@ -91,12 +80,12 @@ waiting_none hs = record {
 
 module _ (hs : List Holding) (sets : List PlaceSet) (i : ℕ) (l : i < length hs) (inv : Waiting hs sets i) where
   abbrev h : Holding
-  h = get_or hs i blank
+  h = get_or hs i no_holding
 
   -- what one more holding adds to the p-th set
   grown : (p : ℕ) → placed (waits (take (i + 1) hs) p) ≡ join (placed (waits (take i hs) p)) (cond (eqb h.job p) (placed (new_waits (take i hs) h)) 0)
   grown p =
-      ap (λ gs. placed (waits gs p)) (take_more hs i blank l) ∙ ap placed (waits_push h p (take i hs))
+      ap (λ gs. placed (waits gs p)) (take_more hs i no_holding l) ∙ ap placed (waits_push h p (take i hs))
       ∙ placed_join (waits (take i hs) p) (cond (eqb h.job p) (new_waits (take i hs) h) 0)
       ∙ ap (join (placed (waits (take i hs) p))) (placed_cond (eqb h.job p) (new_waits (take i hs) h))
 
@@ -105,11 +94,11 @@ module _ (hs : List Holding) (sets : List PlaceSet) (i : ℕ) (l : i < length hs
       grown p ∙ ap (λ b. join (placed (waits (take i hs) p)) (cond b (placed (new_waits (take i hs) h)) 0)) (ne_eqb h.job p ne)
       ∙ join_none (placed (waits (take i hs) p))
 
-  pub waiting_skip : 16 ≤ (get_or hs i blank).job → Waiting hs sets (i + 1)
+  pub waiting_skip : 16 ≤ (get_or hs i no_holding).job → Waiting hs sets (i + 1)
   waiting_skip far = record { long = inv.long; told = λ p m. inv.told p m ∙ sym (same p (λ e. omega arith)) }
 
-  pub waiting_more : (new : PlaceSet) → (get_or hs i blank).job < 16 → new.mask ≡ join (mask_at sets (get_or hs i blank).job) (placed (new_waits (take i hs) (get_or hs i blank)))
-      → Waiting hs (set sets (get_or hs i blank).job new) (i + 1)
+  pub waiting_more : (new : PlaceSet) → (get_or hs i no_holding).job < 16 → new.mask ≡ join (mask_at sets (get_or hs i no_holding).job) (placed (new_waits (take i hs) (get_or hs i no_holding)))
+      → Waiting hs (set sets (get_or hs i no_holding).job new) (i + 1)
   waiting_more new near is = record {
     long = length-set sets h.job new ∙ inv.long;
     told = λ p m. elim (cases_eq h.job p) [ inl e ↦ here p e | inr ne ↦ other p m ne ];

@@ -1,9 +1,9 @@
 -- Sets of places in a row, and the holdings that are in the way of a job.
 use Rattle.std.specs.Prelude.{ℕ, Bool, not, ◌&&◌, List, ◌==◌, slice_index_or}
+use Rattle.std.specs.List.{list_any}
 use Rattle.protocol.specs.declared.holdings.Holding.{Holding}
 use Rattle.protocol.specs.declared.places.PlaceSet.{PlaceSet}
 use Rattle.protocol.specs.Holdings.{clash}
-use Rattle.protocol.specs.Lists.{any}
 
 -- the empty set, and what a read past the end gives
 abbrev pub nobody : PlaceSet
@@ -15,4 +15,4 @@ mask_at sets p = (slice_index_or sets p nobody).mask
 
 -- job p waits for the job of holding g, another, on account of one of its own among those behind it
 abbrev pub blocks : ℕ → Holding → List Holding → Bool
-blocks p g hs = not (g.job == p) && any (λ h. (h.job == p) && clash g h) hs
+blocks p g hs = not (g.job == p) && list_any (λ h. (h.job == p) && clash g h) hs

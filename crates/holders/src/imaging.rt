@@ -1,13 +1,10 @@
 // The open holding that an image call turns.
-ghost use Rattle.std.specs.Prelude.{◌≡◌, ◌&&◌, map, if◌then◌else◌, Ok, Err};
-ghost use Rattle.terms.specs.declared.calls.Call.TheVariants.{Image};
+ghost use Rattle.std.specs.Prelude.{◌≡◌, ◌&&◌, if◌then◌else◌, Ok, Err};
+ghost use Rattle.std.specs.List.{list_any};
 ghost use Rattle.protocol.specs.declared.refusals.Refusal.TheVariants.{NotOpen};
-ghost use Rattle.protocol.specs.Holdings.{opened, holds, turn};
-ghost use Rattle.protocol.specs.Lists.{any};
+ghost use Rattle.protocol.specs.Holdings.{opened, holds};
 ghost use Rattle.holders.specs.Imaging.{image_of};
 
-use super::gathering::any_passes;
-use super::predicates::Predicate;
 use protocol::{Holding, HoldingState, Refusal};
 use terms::Call;
 
@@ -27,38 +24,16 @@ pub fn imaged(holding: Holding, call: Call) -> Result<Holding, Refusal>
     }
 }
 
-// The image call that names the job at a place.
-fn image_call(place: u8, object: u64) -> Call
-    ensures { result ≡ Image place object }
-{
-    Call::Image {
-        place: u64::from(place),
-        object,
-    }
-}
-
-// It is the open holding that an image call turns.
-#[derive(Drop)]
-struct TurnedBy {
-    place: u8,
-    object: u64,
-}
-
-impl Predicate for TurnedBy {
-    ghost test = { λ t h. holds t.place t.object h && opened h.state };
-
-    fn passes(&self, holding: &Holding) -> bool {
-        imaged(*holding, image_call(self.place, self.object)).is_ok()
-    }
-}
-
 // Refused where the job does not have the object open.
 pub fn find_open(holdings: &[Holding], place: u8, object: u64) -> Result<(), Refusal>
-    ensures { result ≡ (if any (λ h. holds place object h && opened h.state) holdings.now then Ok tt else Err NotOpen) }
+    ensures { result ≡ (if list_any (λ h. holds place object h && opened h.state) holdings.now then Ok tt else Err NotOpen) }
 {
-    if any_passes(holdings, &TurnedBy { place, object }) {
-        Ok(())
-    } else {
-        Err(Refusal::NotOpen)
-    }
+    let image = Call::Image {
+        place: u64::from(place),
+        object,
+    };
+    let is_open = holdings
+        .iter()
+        .any(|holding| imaged(*holding, image).is_ok());
+    is_open.then_some(()).ok_or(Refusal::NotOpen)
 }

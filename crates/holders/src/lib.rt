@@ -1,10 +1,10 @@
 // Who holds what, who makes what, who waits for whom, and the ring test: questions about holdings in the order of locking.
+// They take any slice and any number of a place, and no struct that would ask something of either.
 #![tactic(auto)]
 
 mod gathering;
 pub mod holders;
 pub mod imaging;
-mod predicates;
 pub mod reaching;
 pub mod waits;
 

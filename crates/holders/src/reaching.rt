@@ -11,31 +11,17 @@ use protocol::{Holding, PlaceSet};
 fn spread_once(sets: &[PlaceSet; 16], set: PlaceSet) -> PlaceSet
     ensures { result.mask ≡ spread (mask_at sets.now) 16 set.mask }
 {
-    let mut all = set;
-    for place in 0..16u8 {
-        if set.has(place) {
-            all = sets[place as usize].joined(all);
-        }
-    }
-    all
-}
-
-// The same so many times over.
-fn spread_often(sets: &[PlaceSet; 16], set: PlaceSet, times: u8) -> PlaceSet
-    ensures { result.mask ≡ rounds (mask_at sets.now) times set.mask }
-{
-    let mut all = set;
-    for _round in 0..times {
-        all = spread_once(sets, all);
-    }
-    all
+    (0..16u8)
+        .zip(sets)
+        .filter(|(place, _)| set.has(*place))
+        .fold(set, |all, (_, waits)| all.joined(*waits))
 }
 
 // All jobs that the set has or waits for, directly or through others: each round adds one of sixteen places or is the last.
 fn reached(sets: &[PlaceSet; 16], set: PlaceSet) -> PlaceSet
     ensures { result.mask ≡ rounds (mask_at sets.now) 17 set.mask }
 {
-    spread_often(sets, set, 17)
+    (0..17u8).fold(set, |all, _round| spread_once(sets, all))
 }
 
 // All jobs for which the job of a new holding would wait by it, directly or through others.

@@ -1,21 +1,17 @@
 -- The laws of the charge rule.
-use Rattle.std.proofs.Common.{◌≡◌, ℕ, suc, ◌+◌, ◌-◌, ◌/◌, ◌^◌, ◌<◌, ◌≤◌, min, Bool, true, false, cond, leb, List, [], ◌∷◌, ◌++◌, map, length, get_or, refl, ap, ◌∙◌, ⊎_elim, arith, lit<, lit≤}
+use Rattle.std.proofs.Common.{◌≡◌, ℕ, suc, ◌+◌, ◌-◌, ◌/◌, ◌^◌, ◌<◌, ◌≤◌, min, Bool, true, false, cond, leb, List, [], ◌∷◌, ◌++◌, Some, option_map, unwrap_or, map, length, get_or, sym, refl, ap, ◌∙◌, ⊎_elim, arith, lit<, lit≤}
+use Rattle.std.specs.List.{find}
 use Rattle.std.proofs.lemmas.List.{get_or_append_left}
+use Rattle.std.proofs.lemmas.List.Sums.{sum_by-cons}
 use Rattle.std.proofs.lemmas.Bool.{cases_lt}
 use Rattle.std.proofs.lemmas.Bool.Decides.{nat_tests}
 use Rattle.terms.specs.declared.modes.Mode.{Mode}
 use Rattle.terms.specs.declared.modes.Mode.TheVariants.{Read, Write}
 use Rattle.house.specs.declared.draws.Row.{Row}
-use Rattle.house.specs.Draw.{draw, draw_sheet, draw_or}
+use Rattle.house.specs.Draw.{draw, draw_sheet}
 use Rattle.house.specs.Charge.{charge_rule, plan_take}
 use Rattle.house.specs.Work.{Lock, worked}
-use Rattle.house.specs.ChargeLaws.{NeverGains, NeverLoses, TellsHours, OnTheSheet, Rises, read_part, total_read}
-
-pub never_gains : NeverGains 2
-never_gains argument work object met = omega arith
-
-pub never_loses : NeverLoses 1
-never_loses argument work object met fits = omega arith
+use Rattle.house.specs.ChargeLaws.{TellsHours, OnTheSheet, Rises, read_part, total_read}
 
 plan_fits : (work : ℕ) (mode : Mode) (met : ℕ) → work < 2 ^ 64 → plan_take work mode met < 2 ^ 64
 plan_fits work Read met h = omega arith
@@ -31,6 +27,7 @@ plan_work argument work [] h = omega arith
 plan_work argument work (lock ∷ rest) h =
     plan_work argument (plan_take work lock.mode lock.met) rest (plan_fits work lock.mode lock.met h)
     ∙ plan_step work lock.mode lock.met (total_read rest)
+    ∙ ap (λ n. min (work + n) (2 ^ 64 - 1)) (sym (sum_by-cons (λ lock. read_part lock.mode lock.met) lock rest))
 
 pub tells_hours : TellsHours 3
 tells_hours argument object met locks =
@@ -42,12 +39,13 @@ unfolding draw
 rises fewer more h = grind (arith, nat_tests)
 
 -- the draw that is found is a row's, or else the one named
-found : (otherwise asked : ℕ) (rows : List Row) → (k : ℕ) × ((k ≤ length rows) × (draw_or otherwise rows asked ≡ get_or (map (λ row. row.drawn) rows ++ otherwise ∷ []) k 0))
+found : (otherwise asked : ℕ) (rows : List Row)
+    → (k : ℕ) × ((k ≤ length rows) × (unwrap_or (option_map (λ row. row.drawn) (find (λ row. leb asked row.minutes) rows)) otherwise ≡ get_or (map (λ row. row.drawn) rows ++ otherwise ∷ []) k 0))
 found otherwise asked [] = (0, (lit≤ tt, refl))
 found otherwise asked (row ∷ rest) =
     let further = found otherwise asked rest in
     let P : Bool → Type 0 = λ b.
-    (k : ℕ) × ((k ≤ length (row ∷ rest)) × (cond b row.drawn (draw_or otherwise rest asked) ≡ get_or (map (λ row. row.drawn) (row ∷ rest) ++ otherwise ∷ []) k 0)) in
+    (k : ℕ) × ((k ≤ length (row ∷ rest)) × (unwrap_or (option_map (λ row. row.drawn) (cond b (Some row) (find (λ row. leb asked row.minutes) rest))) otherwise ≡ get_or (map (λ row. row.drawn) (row ∷ rest) ++ otherwise ∷ []) k 0)) in
     elim (leb asked row.minutes) as P [ true ↦ (0, (omega arith, refl)) | false ↦ (suc further.0, (omega (arith, further.1.0), further.1.1)) ]
 
 pub on_the_sheet : OnTheSheet draw

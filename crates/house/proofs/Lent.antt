@@ -1,18 +1,8 @@
 -- The laws of the loan rule.
-use Rattle.std.proofs.Common.{◌≡◌, ℕ, ◌^◌, ◌<◌, ◌≤◌, max, eqb, List, [], ◌∷◌, ap, inl, inr, arith}
-use Rattle.std.proofs.lemmas.Bool.{ne_eqb, cond-false}
-use Rattle.house.specs.Loan.{loan_rule, team, due_day}
+use Rattle.std.proofs.Common.{◌≡◌, ℕ, ◌^◌, ◌<◌, ◌≤◌, max, List, [], ◌∷◌, ap, inl, inr, arith}
+use Rattle.house.specs.Loan.{loan_rule, due_day}
 use Rattle.house.specs.Work.{Lock, worked}
-use Rattle.house.specs.LoanLaws.{KeepsLent, KeepsOthers, KeepsTeam, Met, NeverSooner, GivesWorkingDay}
-
-pub keeps_lent : KeepsLent 1
-keeps_lent argument work object met lent = cond-false (eqb (team met) 0) argument met (ne_eqb (team met) 0 lent)
-
-pub keeps_others : KeepsOthers 2
-keeps_others argument work object met other = cond-false (eqb (team met) (team argument)) 0 met (ne_eqb (team met) (team argument) other)
-
-pub keeps_team : KeepsTeam 3
-keeps_team argument work object met = omega arith
+use Rattle.house.specs.LoanLaws.{Met, NeverSooner, GivesWorkingDay}
 
 pub gives_working_day : GivesWorkingDay 3
 gives_working_day argument work object met = omega arith

@@ -1,5 +1,6 @@
 -- What a storeskeeper may count on in the charge rule. A kind goes by its number.
-use Rattle.std.specs.Prelude.{◌≡◌, ℕ, ◌+◌, ◌-◌, ◌/◌, ◌^◌, ◌<◌, ◌≤◌, min, Bool, List, [], ◌∷◌, map, length, slice_index}
+use Rattle.std.specs.Prelude.{◌≡◌, ℕ, ◌-◌, ◌/◌, ◌^◌, ◌<◌, ◌≤◌, min, Bool, List, map, length, slice_index}
+use Rattle.std.specs.List.{sum_by}
 use Rattle.terms.specs.Rule.{Rule}
 use Rattle.terms.specs.declared.modes.Mode.{Mode}
 use Rattle.terms.specs.declared.modes.Mode.TheVariants.{Read, Write}
@@ -22,8 +23,7 @@ read_part Write met = 0
 
 -- the total of the values locked to read
 abbrev pub total_read : List Lock → ℕ
-total_read [] = 0
-total_read (lock ∷ rest) = read_part lock.mode lock.met + total_read rest
+total_read locks = sum_by (λ lock. read_part lock.mode lock.met) locks
 
 -- a job of this kind gives the whole hours for which the total that it read lasts, as far as 64 bits hold that total
 abbrev pub TellsHours : ℕ → Type 0

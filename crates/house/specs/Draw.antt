@@ -1,5 +1,6 @@
 -- The draw sheet: what a radio draws in an hour, by the minutes it talks in that hour.
-use Rattle.std.specs.Prelude.{ℕ, cond, List, [], ◌∷◌, nat_le}
+use Rattle.std.specs.Prelude.{ℕ, List, [], ◌∷◌, nat_le, unwrap_or, option_map}
+use Rattle.std.specs.List.{find}
 use Rattle.house.specs.declared.draws.Row.{Row}
 
 -- minutes of talking, and units drawn
@@ -16,11 +17,6 @@ last_draw [] = 0
 last_draw (top ∷ []) = top.drawn
 last_draw (low ∷ next ∷ rest) = last_draw (next ∷ rest)
 
--- the draw of the first row whose minutes reach those asked for, or else the one named
-abbrev pub draw_or : ℕ → List Row → ℕ → ℕ
-draw_or otherwise [] asked = otherwise
-draw_or otherwise (first ∷ rest) asked = cond (nat_le asked first.minutes) first.drawn (draw_or otherwise rest asked)
-
 -- the draw of the first row of the sheet whose minutes reach those asked for, or of the last row
 unfoldable pub draw : ℕ → ℕ
-draw asked = draw_or (last_draw draw_sheet) draw_sheet asked
+draw asked = unwrap_or (option_map (λ row. row.drawn) (find (λ row. nat_le asked row.minutes) draw_sheet)) (last_draw draw_sheet)

@@ -1,31 +1,41 @@
 // The charge rule: a value is units of charge.
-ghost use Rattle.std.specs.Prelude.{◌≡◌};
+ghost use Rattle.std.specs.Prelude.{◌≡◌, Some, ok_or};
 ghost use Rattle.house.specs.Charge.{charge_kind, charge_rule};
 
 use super::draws::draw_at;
+use super::kinds::UnknownKind;
 use terms::{JobRule, Mode};
 
-#[derive(Clone, Copy)]
+#[derive(Clone, Copy, PartialEq, Eq, Debug)]
 pub enum ChargeKind {
     // adds the argument to a pack
-    Charge,
+    Charge = 1,
     // takes the argument from a pack
-    Spend,
+    Spend = 2,
     // tells for how many hours the packs that are read will last
-    Plan,
+    Plan = 3,
 }
 
-impl ChargeKind {
-    // The kind of that number.
-    pub fn of(number: u8) -> Option<ChargeKind>
-        ensures { result ≡ charge_kind number }
-    {
+impl TryFrom<u8> for ChargeKind {
+    type Error = UnknownKind;
+
+    ghost try_from_gives = { λ number kind. kind ≡ ok_or (charge_kind number) (record { number = number }) };
+
+    fn try_from(number: u8) -> Result<ChargeKind, UnknownKind> {
         match number {
-            1 => Some(ChargeKind::Charge),
-            2 => Some(ChargeKind::Spend),
-            3 => Some(ChargeKind::Plan),
-            _ => None,
+            1 => Ok(ChargeKind::Charge),
+            2 => Ok(ChargeKind::Spend),
+            3 => Ok(ChargeKind::Plan),
+            _ => Err(UnknownKind { number }),
         }
+    }
+}
+
+impl From<ChargeKind> for u8 {
+    ghost from_gives = { λ kind number. charge_kind number ≡ Some kind };
+
+    fn from(kind: ChargeKind) -> u8 {
+        kind as u8
     }
 }
 
@@ -36,36 +46,33 @@ impl JobRule for ChargeRule {
     ghost means = { λ _. charge_rule };
 
     fn knows(&self, kind: u8) -> bool {
-        ChargeKind::of(kind).is_some()
+        ChargeKind::try_from(kind).is_ok()
     }
 
     fn start(&self, kind: u8, argument: u64) -> u64 {
-        match ChargeKind::of(kind) {
-            Some(ChargeKind::Charge) => argument,
-            Some(ChargeKind::Spend) => argument,
-            Some(ChargeKind::Plan) => 0,
-            None => 0,
+        match ChargeKind::try_from(kind) {
+            Ok(ChargeKind::Charge | ChargeKind::Spend) => argument,
+            Ok(ChargeKind::Plan) | Err(_) => 0,
         }
     }
 
     fn take(&self, kind: u8, argument: u64, work: u64, object: u64, mode: Mode, met: u64) -> u64 {
-        match ChargeKind::of(kind) {
-            Some(ChargeKind::Charge) => work,
-            Some(ChargeKind::Spend) => work,
-            Some(ChargeKind::Plan) => match mode {
+        match ChargeKind::try_from(kind) {
+            Ok(ChargeKind::Charge | ChargeKind::Spend) => work,
+            Ok(ChargeKind::Plan) => match mode {
                 Mode::Read => work.saturating_add(met),
                 Mode::Write => work,
             },
-            None => 0,
+            Err(_) => 0,
         }
     }
 
     fn give(&self, kind: u8, argument: u64, work: u64, object: u64, met: u64) -> u64 {
-        match ChargeKind::of(kind) {
-            Some(ChargeKind::Charge) => met.saturating_add(argument),
-            Some(ChargeKind::Spend) => met.saturating_sub(argument),
-            Some(ChargeKind::Plan) => work / draw_at(argument),
-            None => met,
+        match ChargeKind::try_from(kind) {
+            Ok(ChargeKind::Charge) => met.saturating_add(argument),
+            Ok(ChargeKind::Spend) => met.saturating_sub(argument),
+            Ok(ChargeKind::Plan) => work / draw_at(argument),
+            Err(_) => met,
         }
     }
 }

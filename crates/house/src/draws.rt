@@ -3,7 +3,7 @@ ghost use Rattle.std.specs.Prelude.{◌≡◌, ◌<◌};
 ghost use Rattle.house.specs.Draw.{draw};
 
 // Minutes of talking and units drawn, both in an hour.
-#[derive(Clone, Copy)]
+#[derive(Clone, Copy, PartialEq, Eq, Debug)]
 pub struct Row {
     pub minutes: u64,
     pub drawn: u64,
@@ -41,14 +41,13 @@ pub const DRAW_SHEET: [Row; 7] = [
 ];
 
 // The draw of the first row whose minutes reach those asked for, or of the last row.
+#[tactic(auto, unfolding(crate::specs::Draw::draw))]
 pub fn draw_at(minutes: u64) -> u64
     ensures draws { result ≡ draw minutes }
     ensures some { 0 < result }
 {
-    for row in DRAW_SHEET {
-        if minutes <= row.minutes {
-            return row.drawn;
-        }
-    }
-    DRAW_SHEET[6].drawn
+    DRAW_SHEET
+        .iter()
+        .find(|row| minutes <= row.minutes)
+        .map_or(DRAW_SHEET[6].drawn, |row| row.drawn)
 }

@@ -3,9 +3,11 @@
 
 pub mod charges;
 pub mod draws;
+pub mod kinds;
 pub mod laws;
 pub mod loans;
 
 pub use charges::{ChargeKind, ChargeRule};
 pub use draws::{DRAW_SHEET, Row};
+pub use kinds::UnknownKind;
 pub use loans::{Loan, LoanKind, LoanRule};

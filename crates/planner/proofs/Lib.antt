@@ -1,6 +1,8 @@
 pub mod Left
 pub mod Sheets
+pub mod Tries
 pub mod Digits
 pub mod Cuts
+pub mod Laid
 pub mod Turns
 pub mod Written

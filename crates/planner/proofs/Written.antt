@@ -8,6 +8,7 @@ use Rattle.std.specs.List.{AllByRecursion}
 use Rattle.planner.specs.Numbers.{digits, value_after, number_of}
 use Rattle.planner.specs.Packs.{before_feed, after_feed, lines_of, packs_after}
 use Rattle.planner.specs.PackLaws.{written, ReadsBack}
+use Rattle.planner.proofs.Cuts.{before_cons, after_cons}
 use Rattle.planner.proofs.Turns.{pack_read, text_ends}
 
 own : IsNumeralModel (λ ds. digits ds ≡ true) (value_after 0)
@@ -28,8 +29,8 @@ cut_digits (d ∷ ds) rest all =
     let low = leb-true 48 d (and_parts (leb 48 d) (leb d 57) parts.0).0 in
     let ih = cut_digits ds rest parts.1 in
     let off = ne_eqb d 10 (λ e. omega arith) in (
-      cond-false (eqb d 10) [] (d ∷ before_feed (ds ++ (10 ∷ rest))) off ∙ ap (λ l. d ∷ l) ih.0,
-      cond-false (eqb d 10) (ds ++ (10 ∷ rest)) (after_feed (ds ++ (10 ∷ rest))) off ∙ ih.1,
+      before_cons d (ds ++ (10 ∷ rest)) ∙ cond-false (eqb d 10) [] (d ∷ before_feed (ds ++ (10 ∷ rest))) off ∙ ap (λ l. d ∷ l) ih.0,
+      after_cons d (ds ++ (10 ∷ rest)) ∙ cond-false (eqb d 10) (ds ++ (10 ∷ rest)) (after_feed (ds ++ (10 ∷ rest))) off ∙ ih.1,
     )
 
 back : (read packs : List ℕ) → AllByRecursion (λ pack. pack < 2 ^ 64) packs → length read + length packs ≤ 65536 → packs_after read (lines_of (written packs)) ≡ Ok (read ++ packs)
@@ -39,7 +40,8 @@ back read (pack ∷ rest) small room =
     let cut = cut_digits (decimal pack) (written rest) (digits_decimal own pack small.0) in
     let some : 0 < length text = omega (arith, length-append (decimal pack) (10 ∷ written rest)) in
     let more : length (read ++ pack ∷ []) + length rest ≤ 65536 = omega (arith, length-append read (pack ∷ [])) in
-    pack_read read text some pack (omega arith) (number_decimal pack small.0 ∙ ap number_of (sym cut.0))
+    ap (λ l. packs_after read (lines_of l)) (append_assoc (decimal pack) (10 ∷ []) (written rest))
+    ∙ pack_read read text some pack (omega arith) (number_decimal pack small.0 ∙ ap number_of (sym cut.0))
     ∙ ap (λ l. packs_after (read ++ pack ∷ []) (lines_of l)) cut.1
     ∙ back (read ++ pack ∷ []) rest small.1 more
     ∙ ap Ok (append_assoc read (pack ∷ []) rest)

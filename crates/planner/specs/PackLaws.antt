@@ -1,12 +1,11 @@
 -- What may be counted on in packs as text.
 use Rattle.std.specs.Prelude.{◌≡◌, ℕ, ◌^◌, ◌<◌, ◌≤◌, List, [], ◌∷◌, ◌++◌, length, Ok, decimal}
-use Rattle.std.specs.List.{AllByRecursion}
+use Rattle.std.specs.List.{AllByRecursion, flat_map}
 use Rattle.planner.specs.Packs.{packs_of}
 
 -- packs as text: each in decimal digits, ended by a line feed
 abbrev pub written : List ℕ → List ℕ
-written [] = []
-written (pack ∷ rest) = decimal pack ++ (10 ∷ written rest)
+written packs = flat_map (λ pack. decimal pack ++ (10 ∷ [])) packs
 
 -- so many packs of 64 bits or fewer, written as text, are read back as they were
 abbrev pub ReadsBack : ℕ → Type 0

@@ -1,18 +1,17 @@
 -- Packs as text: one number to a line.
 use Rattle.std.specs.Prelude.{ℕ, ◌+◌, cond, List, [], ◌∷◌, ◌++◌, length, Some, None, Ok, Err, Option, Result, ◌==◌, nat_lt}
+use Rattle.std.specs.List.{before_first, after_first}
 use Rattle.planner.specs.declared.faults.Fault.{Fault}
 use Rattle.planner.specs.declared.faults.Fault.TheVariants.{NoNumber, TooMany}
 use Rattle.planner.specs.Numbers.{number_of}
 
 -- the bytes before the first line feed
 abbrev pub before_feed : List ℕ → List ℕ
-before_feed [] = []
-before_feed (byte ∷ rest) = cond (byte == 10) [] (byte ∷ before_feed rest)
+before_feed text = before_first (λ byte. byte == 10) text
 
 -- the bytes after the first line feed
 abbrev pub after_feed : List ℕ → List ℕ
-after_feed [] = []
-after_feed (byte ∷ rest) = cond (byte == 10) rest (after_feed rest)
+after_feed text = after_first (λ byte. byte == 10) text
 
 -- a byte before the first of some lines
 abbrev pub onto : ℕ → List (List ℕ) → List (List ℕ)

@@ -16,6 +16,7 @@ pub enum Fault {
     NoMemory,
 }
 
+// These are written out, since their clauses say what comes of each fault: what a derive writes has none.
 impl<T: Drop> From<AllocFailed<T>> for Fault {
     ghost from_gives = { λ _ fault. fault ≡ NoMemory };
 

@@ -6,31 +6,16 @@ ghost use Rattle.planner.specs.Packs.{packs_of, before_feed, after_feed};
 use super::faults::Fault;
 use super::numbers::number;
 use std::alloc::Global;
-
-const MOST_PACKS: usize = 65536;
-
-// How many bytes stand before the first line feed.
-fn line_length(text: &[u8]) -> usize
-    ensures { result ≡ length (before_feed text.now) }
-{
-    for (i, byte) in text.iter().enumerate() {
-        if *byte == b'\n' {
-            return i;
-        }
-    }
-    text.len()
-}
+use terms::MOST_OBJECTS;
 
 // The first line of a text, and the text after its line feed.
 pub fn cut_line(text: &[u8]) -> (&[u8], &[u8])
     ensures line { result.0.now ≡ before_feed text.now }
     ensures rest { result.1.now ≡ after_feed text.now }
 {
-    let end = line_length(text);
-    if end < text.len() {
-        (&text[0..end], &text[end + 1..])
-    } else {
-        (text, &[])
+    match text.iter().position(|byte| *byte == b'\n') {
+        Some(end) => (&text[..end], &text[end + 1..]),
+        None => (text, &[]),
     }
 }
 
@@ -42,13 +27,11 @@ pub fn read_packs(heap: Global, text: &[u8]) -> Result<Vec<u64>, Fault>
     let mut rest = text;
     while !rest.is_empty() {
         let line = packs.len() + 1;
-        if line > MOST_PACKS {
+        if line > MOST_OBJECTS {
             return Err(Fault::TooMany { line });
         }
         let (first, more) = cut_line(rest);
-        let Some(pack) = number(first) else {
-            return Err(Fault::NoNumber { line });
-        };
+        let pack = number(first).ok_or(Fault::NoNumber { line })?;
         packs.push(pack)?;
         rest = more;
     }

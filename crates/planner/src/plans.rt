@@ -1,17 +1,24 @@
 // Plans over the packs of a store, by a store's and a job rule's terms alone.
-ghost use Rattle.std.specs.Prelude.{◌≡◌};
-ghost use Rattle.planner.specs.Plan.{line, sheet_by_rule, sheet_by_total};
+ghost use Rattle.std.specs.Prelude.{◌≡◌, Some};
+ghost use Rattle.planner.specs.Plan.{line, line_text, sheet_by_rule, sheet_by_total};
 
-use house::{ChargeRule, DRAW_SHEET};
+use house::{ChargeKind, ChargeRule, DRAW_SHEET};
+use std::fmt;
 use terms::{JobRule, Mode, Store};
 
-const PLAN: u8 = 3;
-
 // Minutes of talking in an hour, and the hours for which the packs then last.
-#[derive(Clone, Copy)]
+#[derive(Clone, Copy, PartialEq, Eq, Debug)]
 pub struct Line {
     pub minutes: u64,
     pub hours: u64,
+}
+
+impl fmt::Display for Line {
+    ghost output = { λ line. Some (line_text line) };
+
+    fn fmt<W: fmt::Write>(&self, f: &mut fmt::Formatter<W>) -> fmt::Result {
+        write!(f, "{:>2} {:>20}", self.minutes, self.hours)
+    }
 }
 
 // What a job that reads every object of a store writes to a new line past them, where it meets 0.
@@ -19,6 +26,7 @@ pub fn job_line<S: Store, R: JobRule>(store: &S, rule: &R, kind: u8, argument: u
     ensures { result ≡ line (R.JobRule.means rule.now) kind argument (S.Store.values store.now) }
 {
     let mut work = rule.start(kind, argument);
+    // A fold would put these two steps into a closure within a closure.
     for object in 0..store.len() {
         if let Some(met) = store.read(object) {
             work = rule.take(kind, argument, work, object, Mode::Read, met);
@@ -32,14 +40,8 @@ pub fn plan_sheet<S: Store>(store: &S) -> [Line; 7]
     ensures rule { result ≡ sheet_by_rule (S.Store.values store.now) }
     ensures total { result ≡ sheet_by_total (S.Store.values store.now) }
 {
-    let mut sheet = [Line {
-        minutes: 0,
-        hours: 0,
-    }; 7];
-    for (i, row) in DRAW_SHEET.iter().enumerate() {
-        let minutes = row.minutes;
-        let hours = job_line(store, &ChargeRule, PLAN, minutes);
-        sheet[i] = Line { minutes, hours };
-    }
-    sheet
+    DRAW_SHEET.map(|row| Line {
+        minutes: row.minutes,
+        hours: job_line(store, &ChargeRule, ChargeKind::Plan.into(), row.minutes),
+    })
 }

@@ -1,27 +1,24 @@
 -- What is known where a call is accepted: each reason to refuse it fails.
-use Rattle.std.proofs.Common.{◌≡◌, ℕ, ◌<◌, Bool, true, false, ◌&&◌, eqb, ltb, List, [], ◌∷◌, length, Some, None, Option, refl, inl, arith}
+use Rattle.std.proofs.Common.{◌≡◌, ℕ, ◌<◌, Bool, true, false, ◌&&◌, eqb, ltb, List, [], ◌∷◌, length, None, refl, inl, arith}
+use Rattle.std.specs.List.{AllByRecursion}
 use Rattle.std.proofs.lemmas.Bool.{both_ways, ltb-false, leb-false, not-false, and_from, eqb-true, eq-eqb, and_parts}
 use Rattle.terms.specs.declared.modes.Mode.{Mode}
 use Rattle.protocol.specs.declared.holdings.Holding.{Holding}
 use Rattle.terms.specs.declared.calls.Call.TheVariants.{Begin, Lock, Image, Commit, Abort}
 use Rattle.protocol.specs.declared.assumptions.Execution.{Execution}
 use Rattle.protocol.specs.Holdings.{holds, held_by, opened, begins, waits, new_waits, reach}
-use Rattle.protocol.specs.Lists.{is_nil, first, In, All}
+use Rattle.protocol.specs.Lists.{is_nil, first, In}
 use Rattle.protocol.specs.Model.{Model, executions_of, holding_count, names}
 use Rattle.protocol.specs.Places.{has}
 use Rattle.protocol.specs.Step.{answer, refusals}
 use Rattle.terms.specs.Rule.{Rule}
 use Rattle.protocol.proofs.Running.{Runs}
-use Rattle.protocol.proofs.Lists.{any_in, none_passes, in_keep}
+use Rattle.protocol.proofs.Lists.{any_in, none_passes, in_filter}
 
 -- where no refusal is answered, every test fails
-first_none : {A : Type 0} (ts : List (Bool × A)) → first ts ≡ None → All (λ (t : Bool × A). t.0 ≡ false) ts
-first_none [] e = tt
-first_none {A} (t ∷ ts) e = go t.0 refl e (first_none ts)
-  where
-    go : (b : Bool) → t.0 ≡ b → ◌≡◌ {A = Option A} (elim b [ true ↦ Some t.1 | false ↦ first ts ]) None → (first ts ≡ None → All (λ (t : Bool × A). t.0 ≡ false) ts) → All (λ (t : Bool × A). t.0 ≡ false) (t ∷ ts)
-    go true q e rec = let z : ◌≡◌ {A = ℕ} 0 1 = cc in absurd (omega arith)
-    go false q e rec = (q, rec e)
+pub none_first : {A : Type 0} (ts : List (Bool × A)) → first ts ≡ None → AllByRecursion (λ (t : Bool × A). t.0 ≡ false) ts
+none_first [] e = tt
+none_first {A} (t ∷ ts) e = grind (arith, e, none_first ts)
 
 -- of an accepted begin
 pub record Begins (m : Model) (p : ℕ) : Type 0 where
@@ -68,12 +65,12 @@ small p e = omega (arith, ltb-false 15 p e)
 
 pub begin_accepted : (r : Rule) (m : Model) (p k a : ℕ) → answer r m (Begin p k a) ≡ None → Begins m p
 unfolding answer refusals
-begin_accepted r m p k a e = let f = first_none (refusals r m (Begin p k a)) e in record { small = small p f.0; idle = λ i. both_ways _ f.1.0 i }
+begin_accepted r m p k a e = let f = none_first (refusals r m (Begin p k a)) e in record { small = small p f.0; idle = λ i. both_ways _ f.1.0 i }
 
 pub lock_accepted : (r : Rule) (m : Model) (p o : ℕ) (mode : Mode) → answer r m (Lock p o mode) ≡ None → Locks m p o mode
 unfolding answer refusals
 lock_accepted r m p o mode e =
-    let f = first_none (refusals r m (Lock p o mode)) e in
+    let f = none_first (refusals r m (Lock p o mode)) e in
     record {
       runs = not-false _ f.1.0;
       object = leb-false _ _ f.1.1.1.0;
@@ -86,7 +83,7 @@ lock_accepted r m p o mode e =
 pub image_accepted : (r : Rule) (m : Model) (p o : ℕ) → answer r m (Image p o) ≡ None → Images m p o
 unfolding answer refusals
 image_accepted r m p o e =
-    let f = first_none (refusals r m (Image p o)) e in
+    let f = none_first (refusals r m (Image p o)) e in
     let a = any_in (λ h. holds p o h && opened h.state) m.holdings (not-false _ f.1.1.1.1.0) in
     let b = and_parts _ _ a.2 in
     let c = and_parts _ _ b.0 in
@@ -103,9 +100,9 @@ not_nil (x ∷ xs) e = (x, inl refl)
 pub commit_accepted : (r : Rule) (m : Model) (p : ℕ) → answer r m (Commit p) ≡ None → Commits m p
 unfolding answer refusals
 commit_accepted r m p e =
-    let f = first_none (refusals r m (Commit p)) e in
+    let f = none_first (refusals r m (Commit p)) e in
     let x = not_nil (executions_of p m) f.1.1.0 in
-    let i = in_keep (names p) m.executions x.0 x.1 in
+    let i = in_filter (names p) m.executions x.0 x.1 in
     record {
       runs = not-false _ f.1.0;
       some = (x.0, i.0, eqb-true _ _ i.1);
@@ -115,4 +112,4 @@ commit_accepted r m p e =
 
 pub abort_accepted : (r : Rule) (m : Model) (p : ℕ) → answer r m (Abort p) ≡ None → Runs m p
 unfolding answer refusals
-abort_accepted r m p e = not-false _ (first_none (refusals r m (Abort p)) e).1.0
+abort_accepted r m p e = not-false _ (none_first (refusals r m (Abort p)) e).1.0

@@ -1,7 +1,7 @@
 -- A job has an execution for each way in which the jobs on which it relies may end, as long as few enough of them abort; and one execution once all have ended.
 -- Here the statement, a new book, a begin and an image. Words: `GoesWith`, `ProvidedFor`.
-use Rattle.std.proofs.Common.{◌≡◌, ℕ, ◌+◌, ◌<◌, ◌≤◌, true, false, cond, eqb, ◌⊎◌, List, [], ◌∷◌, length, get_or, set, replicate, Some, None, sym, refl, ap, ◌∙◌, subst, inl, inr, arith, get_or-set_other}
-use Rattle.std.proofs.lemmas.Bool.{cases_eq, eqb-true, eq-eqb, ne_eqb, cond-true, cond-false}
+use Rattle.std.proofs.Common.{◌≡◌, ℕ, ◌+◌, ◌<◌, ◌≤◌, true, false, cond, eqb, ◌⊎◌, List, [], ◌∷◌, length, set, replicate, Some, sym, refl, ap, ◌∙◌, subst, inl, inr, arith}
+use Rattle.std.proofs.lemmas.Bool.{cases_eq, eqb-true, eq-eqb}
 use Rattle.protocol.specs.Assumptions.{aborts_of, assume}
 use Rattle.protocol.specs.declared.assumptions.Assumption.{Assumption}
 use Rattle.protocol.specs.declared.assumptions.Execution.{Execution}
@@ -9,16 +9,16 @@ use Rattle.protocol.specs.declared.assumptions.Version.{Version}
 use Rattle.terms.specs.declared.calls.Call.TheVariants.{Begin, Image}
 use Rattle.protocol.specs.Holdings.{position}
 use Rattle.protocol.specs.Image.{version_by}
-use Rattle.protocol.specs.Lists.{In, Pairs, is_some}
+use Rattle.protocol.specs.Lists.{In}
 use Rattle.protocol.specs.Model.{Model, new, executions_of, names, job_at}
 use Rattle.protocol.specs.Places.{has, size}
 use Rattle.protocol.specs.Step.{next}
 use Rattle.terms.specs.Rule.{Rule}
-use Rattle.protocol.proofs.Running.{Runs, runs_begun}
-use Rattle.protocol.proofs.SetDigits.{size_mono}
-use Rattle.protocol.proofs.Membership.{none_in, join_cases, in_single}
-use Rattle.protocol.proofs.SetSizes.{meet, in_meet, size_zero}
-use Rattle.protocol.proofs.Lists.{in_keep, keep_in, over_keep, over_append, over_push, append_left, append_right, append_cases, over_map, pairs_keep, pairs_in}
+use Rattle.protocol.proofs.Running.{Runs, RunsIn, ran_before, runs_begun}
+use Rattle.protocol.proofs.SetSizes.{size_mono, size_zero}
+use Rattle.protocol.proofs.Membership.{none_in, join_cases, in_single, in_meet}
+use Rattle.protocol.proofs.SetDigits.{meet}
+use Rattle.protocol.proofs.Lists.{in_filter, filter_in, over_append, over_push, append_left, append_right, append_cases, pairs_filter, lone, over_part}
 use Rattle.protocol.proofs.Chains.{CommitIn, AbortIn, AssumedIn}
 use Rattle.protocol.proofs.Accepted.{Begins}
 use Rattle.protocol.proofs.WellFormed.{WellFormed}
@@ -48,24 +48,15 @@ pub record Covered (m : Model) (relied gone : ℕ → ℕ) : Type 0 where
       → gone p + size (meet (relied p) ab) ≤ m.robustness → ProvidedFor m.executions p ab
 
 -- ---- all relied-on jobs have ended: one execution
--- a list of which no two are apart has one member
-single_list : (xs : List Execution) → (e : Execution) → In e xs → Pairs (λ e f. ⊥) xs → length xs ≡ 1
-single_list [] e i p = absurd i
-single_list (x ∷ []) e i p = refl
-single_list (x ∷ y ∷ xs) e i p = absurd p.0.0
-
 pub one_execution : (m : Model) (relied gone : ℕ → ℕ) → Consistent m → Covered m relied gone → (p : ℕ) → Runs m p → ((k : ℕ) → has (relied p) k ≡ true → ⊥) → gone p ≤ m.robustness → length (executions_of p m) ≡ 1
 one_execution m relied gone x y p runs none few =
     let a = y.complete p runs 0 (λ k i e. absurd (none k i)) (omega (arith, few, no_count)) in
-    single_list (executions_of p m) a.0 (keep_in (names p) m.executions a.0 a.1 (eq-eqb _ _ a.2))
-    (pairs_in ExecutionsApart (λ e f. ⊥) (executions_of p m) (λ e f i j c.
-    let ie = in_keep (names p) m.executions e i in
-    let jf = in_keep (names p) m.executions f j in
+    ap length (lone ExecutionsApart (executions_of p m) a.0 (pairs_filter ExecutionsApart (names p) m.executions x.executions_apart) (λ e f i j c.
+    let ie = in_filter (names p) m.executions e i in
     let pe = eqb-true e.job p ie.1 in
-    let pf = eqb-true f.job p jf.1 in
-    let k = c (pe ∙ sym pf) in
+    let k = c (pe ∙ sym (eqb-true f.job p (in_filter (names p) m.executions f j).1)) in
     elim k.1 [ inl z ↦ empty e ie.0 pe _ (inl z.0) | inr z ↦ empty e ie.0 pe _ (inr z.0) ])
-    (pairs_keep ExecutionsApart (names p) m.executions x.executions_apart))
+    (filter_in (names p) m.executions a.0 a.1 (eq-eqb _ _ a.2)))
   where
     no_count : size (meet (relied p) 0) ≤ 0
     no_count = omega (arith, size_mono (meet (relied p) 0) 0 (λ k h. (in_meet (relied p) 0 k h).1), size_zero)
@@ -86,27 +77,26 @@ pub covered_begin : (r : Rule) (m : Model) (p k a : ℕ) (relied gone : ℕ → 
 unfolding next
 covered_begin r m p k a relied gone b sh y = record {
   running = λ q h j i. elim (cases_eq q p) [
-    | inl e ↦ none_in j (subst (λ n. has n j ≡ true) (here relied q e) i)
-    | inr n ↦ let w = y.running q (old_run q n h) j (subst (λ x. has x j ≡ true) (there relied q n) i) in (runs_begun m.jobs p j (record { kind = k; argument = a }) inside w.0, w.1)
+    | inl e ↦ none_in j (grind (arith, e, i))
+    | inr n ↦ let w = y.running q (old_run q n h) j (grind (arith, n, i)) in (runs_begun m.jobs p j (record { kind = k; argument = a }) inside w.0, w.1)
   ];
   execution_relied = over_push (λ e. (k : ℕ) → AssumedIn e.assumes k → has (reset p relied e.job) k ≡ true) m.executions _
-      (λ e i k s. subst (λ x. has x k ≡ true) (sym (there relied e.job (not_p _ (sh.worked_by e i).0))) (y.execution_relied e i k s))
+      (λ e i k s. grind (arith, not_p _ (sh.worked_by e i).0, y.execution_relied e i k s))
       (λ k. elim [ inl c ↦ none_in k c | inr c ↦ none_in k c ]);
-  version_relied = λ v i k s. let h = sh.made_by v i in
-      elim (y.version_relied v i k s) [ inl e ↦ inl e | inr e ↦ inr (subst (λ x. has x k ≡ true) (sym (there relied v.maker (not_p _ (subst (Runs m) h.2 (sh.held_by h.0 h.1).0)))) e) ];
+  version_relied = λ v i k s. let h = sh.made_by v i in grind (arith, y.version_relied v i k s, not_p _ (subst (Runs m) h.2 (sh.held_by h.0 h.1).0));
   counted = over_push (λ e. e.tally ≤ reset p gone e.job + size (aborts_of e.assumes)) m.executions _
-      (λ e i. omega (arith, y.counted e i, there gone e.job (not_p _ (sh.worked_by e i).0))) (omega arith);
+      (λ e i. grind (arith, y.counted e i, not_p _ (sh.worked_by e i).0)) (omega arith);
   complete = λ q h ab f l. elim (cases_eq q p) [
     | inl e ↦ (begun, append_right m.executions _ _ (inl refl), sym e, record { on_commits = λ k c. none_in k c; on_aborts = λ k c. none_in k c })
     | inr n ↦
         let w = y.complete q (old_run q n h) ab (λ j i u.
-        let g = f j (subst (λ x. has x j ≡ true) (sym (there relied q n)) i) u in
+        let g = f j (grind (arith, n, i)) u in
         let run_j = (y.running q (old_run q n h) j i).0 in
         elim (append_cases m.executions _ g.0 g.1) [
           | inl o ↦ (g.0, o, g.2, g.3)
           | inr o ↦ elim o [ inl e ↦ absurd (b.idle (subst (Runs m) (sym (ap (λ z. z.job) e ∙ g.2)) run_j)) | inr z ↦ absurd z ]
         ])
-        (omega (arith, l, there gone q n, ap (λ x. size (meet x ab)) (there relied q n))) in
+        (grind (arith, l, n)) in
         (w.0, append_left m.executions (begun ∷ []) w.0 w.1, w.2, w.3)
   ];
 }
@@ -117,25 +107,19 @@ covered_begin r m p k a relied gone b sh y = record {
     inside : p < length m.jobs
     inside = omega (arith, sh.places, b.small)
 
-    here : (f : ℕ → ℕ) (q : ℕ) → q ≡ p → reset p f q ≡ 0
-    here f q e = cond-true _ 0 (f q) (eq-eqb q p e)
-
-    there : (f : ℕ → ℕ) (q : ℕ) → (q ≡ p → ⊥) → reset p f q ≡ f q
-    there f q n = cond-false _ 0 (f q) (ne_eqb q p n)
-
     not_p : (q : ℕ) → Runs m q → q ≡ p → ⊥
     not_p q h e = b.idle (subst (Runs m) e h)
 
-    old_run : (q : ℕ) → (q ≡ p → ⊥) → is_some (get_or (set m.jobs p (Some (record { kind = k; argument = a }))) q None) ≡ true → Runs m q
-    old_run q n h = sym (ap is_some (get_or-set_other m.jobs p q (Some (record { kind = k; argument = a })) None n)) ∙ h
+    old_run : (q : ℕ) → (q ≡ p → ⊥) → RunsIn (set m.jobs p (Some (record { kind = k; argument = a }))) q → Runs m q
+    old_run q n h = ran_before m.jobs p q (Some (record { kind = k; argument = a })) n h
 
 pub covered_image : (r : Rule) (m : Model) (p o : ℕ) (relied gone : ℕ → ℕ) → Covered m relied gone → Covered (next r m (Image p o)) relied gone
 unfolding next
 covered_image r m p o relied gone y = record {
   running = y.running;
   execution_relied = y.execution_relied;
-  version_relied = over_append _ m.versions _ y.version_relied (over_map _ (version_by r (job_at m p) o (position p o m.holdings)) _ (over_keep _ _ m.executions (λ e i t k.
-      elim [ inl c ↦ elim (join_cases _ _ k c) [ inl d ↦ inr (y.execution_relied e i k (inl d)) | inr d ↦ inl (sym (in_single _ _ d)) ] | inr c ↦ inr (y.execution_relied e i k (inr c)) ])));
+  version_relied = over_append _ m.versions _ y.version_relied (over_part _ (version_by r (job_at m p) o (position p o m.holdings)) _ m.executions (λ e i t k.
+      elim [ inl c ↦ elim (join_cases _ _ k c) [ inl d ↦ inr (y.execution_relied e i k (inl d)) | inr d ↦ inl (sym (in_single _ _ d)) ] | inr c ↦ inr (y.execution_relied e i k (inr c)) ]));
   counted = y.counted;
   complete = y.complete;
 }

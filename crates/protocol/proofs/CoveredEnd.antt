@@ -1,6 +1,6 @@
 -- The end of a job keeps an execution for each way in which the others may end: the way is made whole by the real ending.
-use Rattle.std.proofs.Common.{◌≡◌, ℕ, ◌+◌, ◌<◌, ◌≤◌, Bool, true, false, cond, not, ◌&&◌, ◌||◌, ◌⊎◌, List, length, sym, refl, ap, ◌∙◌, subst, inl, inr, arith}
-use Rattle.std.proofs.lemmas.Bool.{both_ways, cases_eq, cases_Bool, eq-eqb, ne_eqb, and_parts, and_from, not-true}
+use Rattle.std.proofs.Common.{◌≡◌, ℕ, ◌+◌, ◌<◌, ◌≤◌, true, false, cond, not, ◌&&◌, ◌⊎◌, List, length, sym, ap, ◌∙◌, subst, inl, inr, arith}
+use Rattle.std.proofs.lemmas.Bool.{both_ways, cases_eq, ne_eqb, and_parts, and_from}
 use Rattle.protocol.specs.Assumptions.{aborts_of}
 use Rattle.protocol.specs.declared.assumptions.Assumption.{Assumption}
 use Rattle.protocol.specs.declared.assumptions.Execution.{Execution}
@@ -8,14 +8,14 @@ use Rattle.protocol.specs.History.{is_aborted}
 use Rattle.protocol.specs.Lists.{In}
 use Rattle.protocol.specs.Model.{Model}
 use Rattle.protocol.specs.Places.{has, single, join, without, size}
-use Rattle.protocol.specs.Settling.{denied, survives, settled, settled_execution, settled_version, settle}
+use Rattle.protocol.specs.Settling.{survives, settled, settled_execution, settled_version, settle}
 use Rattle.protocol.specs.declared.jobs.Ending.{Ending}
 use Rattle.protocol.specs.declared.jobs.Ending.TheVariants.{Committed, Aborted}
 use Rattle.protocol.proofs.Running.{Runs, runs_ended, ended_runs}
-use Rattle.protocol.proofs.SetDigits.{size_mono, has_join, has_without, has_single}
-use Rattle.protocol.proofs.Membership.{in_without_one, without_one_in}
-use Rattle.protocol.proofs.SetSizes.{meet, meet_in, in_meet, size_less}
-use Rattle.protocol.proofs.Lists.{keep_in, over_keep, map_in, over_map}
+use Rattle.protocol.proofs.SetDigits.{meet, has_join, has_without, has_single}
+use Rattle.protocol.proofs.Membership.{in_without_one, without_one_in, meet_in, in_meet}
+use Rattle.protocol.proofs.SetSizes.{size_mono, size_less}
+use Rattle.protocol.proofs.Lists.{filter_in, map_in, over_part}
 use Rattle.protocol.proofs.Chains.{CommitIn, AbortIn, AssumedIn}
 use Rattle.protocol.proofs.WellFormed.{WellFormed, runs_small}
 use Rattle.protocol.proofs.Covered.{GoesWith, ProvidedFor, Covered}
@@ -25,31 +25,15 @@ ended : Ending → ℕ → ℕ → ℕ
 ended Committed k ab = without ab (single k)
 ended Aborted k ab = join ab (single k)
 
-right_false : (x y : Bool) → y ≡ false → (x || y) ≡ x
-right_false true y e = refl
-right_false false y e = e
-
-right_true : (x y : Bool) → y ≡ false → (x && not y) ≡ x
-right_true true y e = ap not e
-right_true false y e = refl
-
 ended_other : (w : Ending) (k ab c : ℕ) → (c ≡ k → ⊥) → has (ended w k ab) c ≡ has ab c
 unfolding ended
-ended_other Committed k ab c n = has_without ab (single k) c ∙ right_true _ _ (has_single k c ∙ ne_eqb _ _ (λ e. n (sym e)))
-ended_other Aborted k ab c n = has_join ab (single k) c ∙ right_false _ _ (has_single k c ∙ ne_eqb _ _ (λ e. n (sym e)))
-
-last_true : (x y : Bool) → y ≡ true → (x || y) ≡ true
-last_true true y e = refl
-last_true false y e = e
-
-last_false : (x y : Bool) → y ≡ true → (x && not y) ≡ false
-last_false true y e = ap not e
-last_false false y e = refl
+ended_other Committed k ab c n = grind (arith, n, has_without ab (single k) c, has_single k c)
+ended_other Aborted k ab c n = grind (arith, n, has_join ab (single k) c, has_single k c)
 
 ended_own : (w : Ending) (k ab : ℕ) → has (ended w k ab) k ≡ is_aborted w
 unfolding ended
-ended_own Committed k ab = has_without ab (single k) k ∙ last_false _ _ (has_single k k ∙ eq-eqb k k refl)
-ended_own Aborted k ab = has_join ab (single k) k ∙ last_true _ _ (has_single k k ∙ eq-eqb k k refl)
+ended_own Committed k ab = grind (arith, has_without ab (single k) k, has_single k k)
+ended_own Aborted k ab = grind (arith, has_join ab (single k) k, has_single k k)
 
 module _ (w : Ending) (k : ℕ) (values' : List ℕ) (m : Model) (relied gone : ℕ → ℕ) (sh : WellFormed m) (runs_k : Runs m k) (y : Covered m relied gone)
     -- where k commits it has an execution that goes with every way
@@ -66,13 +50,13 @@ module _ (w : Ending) (k : ℕ) (values' : List ℕ) (m : Model) (relied gone : 
   survivor_not a t = go w t
     where
       go : (w : Ending) → survives w k a ≡ true → (CommitIn a k → is_aborted w ≡ false) × (AbortIn a k → is_aborted w ≡ true)
-      go Committed t = (λ c. refl, λ c. absurd (both_ways _ (not-true _ t) c))
-      go Aborted t = (λ c. absurd (both_ways _ (not-true _ t) c), λ c. refl)
+      go Committed t = grind (arith, t)
+      go Aborted t = grind (arith, t)
 
   goes_before : (a : Assumption) (ab : ℕ) → survives w k a ≡ true → GoesWith (settled k a) ab → GoesWith a (ended w k ab)
   goes_before a ab t g = record {
-    on_commits = λ c i. elim (cases_eq c k) [ inl e ↦ subst (λ x. has (ended w k ab) x ≡ false) (sym e) (ended_own w k ab ∙ (survivor_not a t).0 (subst (CommitIn a) e i)) | inr n ↦ ended_other w k ab c n ∙ g.on_commits c (without_one_in _ k c i n) ];
-    on_aborts = λ c i. elim (cases_eq c k) [ inl e ↦ subst (λ x. has (ended w k ab) x ≡ true) (sym e) (ended_own w k ab ∙ (survivor_not a t).1 (subst (AbortIn a) e i)) | inr n ↦ ended_other w k ab c n ∙ g.on_aborts c (without_one_in _ k c i n) ];
+    on_commits = λ c i. elim (cases_eq c k) [ inl e ↦ grind (arith, e, i, ended_own w k ab, (survivor_not a t).0) | inr n ↦ ended_other w k ab c n ∙ g.on_commits c (without_one_in _ k c i n) ];
+    on_aborts = λ c i. elim (cases_eq c k) [ inl e ↦ grind (arith, e, i, ended_own w k ab, (survivor_not a t).1) | inr n ↦ ended_other w k ab c n ∙ g.on_aborts c (without_one_in _ k c i n) ];
   }
 
   goes_after : (a : Assumption) (ab : ℕ) → GoesWith a (ended w k ab) → GoesWith (settled k a) ab
@@ -82,41 +66,30 @@ module _ (w : Ending) (k : ℕ) (values' : List ℕ) (m : Model) (relied gone : 
   }
 
   goes_survives : (a : Assumption) (ab : ℕ) → GoesWith a (ended w k ab) → survives w k a ≡ true
-  goes_survives a ab g = elim (cases_Bool (has (denied w a) k)) [ inl e ↦ absurd (go w (ended_own w k ab) (g.on_commits k) (g.on_aborts k) e) | inr e ↦ ap not e ]
+  goes_survives a ab g = go w (ended_own w k ab) (g.on_commits k) (g.on_aborts k)
     where
-      go : (v : Ending) → has (ended w k ab) k ≡ is_aborted v → (CommitIn a k → has (ended w k ab) k ≡ false) → (AbortIn a k → has (ended w k ab) k ≡ true) → has (denied v a) k ≡ true → ⊥
-      go Committed q c d e = both_ways _ q (d e)
-      go Aborted q c d e = both_ways _ (c e) q
+      go : (v : Ending) → has (ended w k ab) k ≡ is_aborted v → (CommitIn a k → has (ended w k ab) k ≡ false) → (AbortIn a k → has (ended w k ab) k ≡ true) → survives v k a ≡ true
+      go Committed q c d = grind (arith, q, d)
+      go Aborted q c d = grind (arith, q, c)
 
   able_before : (j ab : ℕ) → ProvidedFor (settle w k values' m).executions j ab → ProvidedFor m.executions j (ended w k ab)
   unfolding settle
-  able_before j ab a = over_map (λ e. e.job ≡ j → GoesWith e.assumes ab → ProvidedFor m.executions j (ended w k ab)) (settled_execution k) _
-      (over_keep _ _ m.executions (λ e i t q g. (e, i, q, goes_before e.assumes ab (and_parts _ _ t).1 g))) a.0 a.1 a.2 a.3
+  able_before j ab a = over_part (λ e. e.job ≡ j → GoesWith e.assumes ab → ProvidedFor m.executions j (ended w k ab)) (settled_execution k) _ m.executions (λ e i t q g. (e, i, q, goes_before e.assumes ab (and_parts _ _ t).1 g)) a.0 a.1 a.2 a.3
 
   -- the count of those that abort does not grow
   fewer : (q ab : ℕ) → gone q + size (meet (relied q) (ended w k ab)) ≤ gone' q + size (meet (relied' q) ab)
-  fewer q ab = go (has (relied q) k && is_aborted w) refl
-    where
-      both : (j : ℕ) → has (meet (relied q) (ended w k ab)) j ≡ true → (j ≡ k → ⊥) → has (meet (relied' q) ab) j ≡ true
-      both j h n = let i = in_meet (relied q) (ended w k ab) j h in meet_in (relied' q) ab j (without_one_in _ k j i.0 n) (sym (ended_other w k ab j n) ∙ i.1)
-
-      go : (b : Bool) → (has (relied q) k && is_aborted w) ≡ b → gone q + size (meet (relied q) (ended w k ab)) ≤ (gone q + cond b 1 0) + size (meet (relied' q) ab)
-      go true e = omega (arith, size_less (meet (relied q) (ended w k ab)) (meet (relied' q) ab) k both)
-      go false e = omega (
-        arith,
-        size_mono (meet (relied q) (ended w k ab)) (meet (relied' q) ab) (λ j h. both j h (λ z.
-            let i = in_meet (relied q) (ended w k ab) j h in
-            both_ways _ e (and_from _ _ (subst (λ x. has (relied q) x ≡ true) z i.0) (sym (ended_own w k ab) ∙ subst (λ x. has (ended w k ab) x ≡ true) z i.1)))),
-      )
+  fewer q ab =
+      let both : (j : ℕ) → has (meet (relied q) (ended w k ab)) j ≡ true → (j ≡ k → ⊥) → has (meet (relied' q) ab) j ≡ true =
+      λ j h n. let i = in_meet (relied q) (ended w k ab) j h in meet_in (relied' q) ab j (without_one_in _ k j i.0 n) (sym (ended_other w k ab j n) ∙ i.1) in
+      let part : ((has (relied q) k && is_aborted w) ≡ false) → size (meet (relied q) (ended w k ab)) ≤ size (meet (relied' q) ab) =
+      λ e. size_mono (meet (relied q) (ended w k ab)) (meet (relied' q) ab) (λ j h. both j h (λ z. grind (arith, e, h, z, in_meet (relied q) (ended w k ab) j, ended_own w k ab))) in
+      grind (arith, part, size_less (meet (relied q) (ended w k ab)) (meet (relied' q) ab) k both)
 
   left_count : (e : Execution) → In e m.executions → survives w k e.assumes ≡ true → e.tally ≤ gone' e.job + size (without (aborts_of e.assumes) (single k))
-  left_count e i t = go (has (aborts_of e.assumes) k) refl
-    where
-      go : (b : Bool) → has (aborts_of e.assumes) k ≡ b → e.tally ≤ gone' e.job + size (without (aborts_of e.assumes) (single k))
-      go true h =
-          let one : ◌≡◌ {A = ℕ} (cond (has (relied e.job) k && is_aborted w) 1 0) 1 = ap (λ b. cond {A = ℕ} b 1 0) (and_from _ _ (y.execution_relied e i k (inr h)) ((survivor_not e.assumes t).1 h)) in
-          omega (arith, y.counted e i, size_less (aborts_of e.assumes) (without (aborts_of e.assumes) (single k)) k (λ q c n. without_one_in _ k q c n))
-      go false h = omega (arith, y.counted e i, size_mono (aborts_of e.assumes) (without (aborts_of e.assumes) (single k)) (λ q c. without_one_in _ k q c (λ z. both_ways _ h (subst (AbortIn e.assumes) z c))))
+  left_count e i t =
+      let less = size_less (aborts_of e.assumes) (without (aborts_of e.assumes) (single k)) k (λ q c n. without_one_in _ k q c n) in
+      let part : (has (aborts_of e.assumes) k ≡ false) → size (aborts_of e.assumes) ≤ size (without (aborts_of e.assumes) (single k)) = λ h. size_mono _ _ (λ q c. without_one_in _ k q c (λ z. both_ways _ h (subst (AbortIn e.assumes) z c))) in
+      grind (arith, y.counted e i, less, part, y.execution_relied e i k, (survivor_not e.assumes t).1)
 
   pub covered_settle : Covered (settle w k values' m) relied' gone'
   unfolding settle
@@ -126,12 +99,12 @@ module _ (w : Ending) (k : ℕ) (values' : List ℕ) (m : Model) (relied gone : 
         let l = in_without_one _ k j i in
         let n = y.running q o.0 j l.0 in
         (runs_ended m.jobs k j l.1 n.0, n.1);
-    execution_relied = over_map (λ e. (j : ℕ) → AssumedIn e.assumes j → has (relied' e.job) j ≡ true) (settled_execution k) _ (over_keep _ _ m.executions (λ e i t j.
-        elim [ inl c ↦ let l = in_without_one _ k j c in without_one_in _ k j (y.execution_relied e i j (inl l.0)) l.1 | inr c ↦ let l = in_without_one _ k j c in without_one_in _ k j (y.execution_relied e i j (inr l.0)) l.1 ]));
-    version_relied = over_map (λ v. (j : ℕ) → AssumedIn v.assumes j → (j ≡ v.maker) ⊎ (has (relied' v.maker) j ≡ true)) (settled_version k) _ (over_keep _ _ m.versions (λ v i t j c.
+    execution_relied = over_part (λ e. (j : ℕ) → AssumedIn e.assumes j → has (relied' e.job) j ≡ true) (settled_execution k) _ m.executions (λ e i t j.
+        elim [ inl c ↦ let l = in_without_one _ k j c in without_one_in _ k j (y.execution_relied e i j (inl l.0)) l.1 | inr c ↦ let l = in_without_one _ k j c in without_one_in _ k j (y.execution_relied e i j (inr l.0)) l.1 ]);
+    version_relied = over_part (λ v. (j : ℕ) → AssumedIn v.assumes j → (j ≡ v.maker) ⊎ (has (relied' v.maker) j ≡ true)) (settled_version k) _ m.versions (λ v i t j c.
         let l : AssumedIn v.assumes j × (j ≡ k → ⊥) = elim c [ inl d ↦ (inl (in_without_one _ k j d).0, (in_without_one _ k j d).1) | inr d ↦ (inr (in_without_one _ k j d).0, (in_without_one _ k j d).1) ] in
-        elim (y.version_relied v i j l.0) [ inl e ↦ inl e | inr e ↦ inr (without_one_in _ k j e l.1) ]));
-    counted = over_map (λ e. e.tally ≤ gone' e.job + size (aborts_of e.assumes)) (settled_execution k) _ (over_keep _ _ m.executions (λ e i t. left_count e i (and_parts _ _ t).1));
+        elim (y.version_relied v i j l.0) [ inl e ↦ inl e | inr e ↦ inr (without_one_in _ k j e l.1) ]);
+    counted = over_part (λ e. e.tally ≤ gone' e.job + size (aborts_of e.assumes)) (settled_execution k) _ m.executions (λ e i t. left_count e i (and_parts _ _ t).1);
     complete = λ q h ab able few.
         let o = ended_runs m.jobs k q inside h in
         let a = y.complete q o.0 (ended w k ab) (λ j i u. elim (cases_eq j k) [
@@ -140,7 +113,7 @@ module _ (w : Ending) (k : ℕ) (values' : List ℕ) (m : Model) (relied gone : 
         ])
         (omega (arith, few, fewer q ab)) in (
           settled_execution k a.0,
-          map_in (settled_execution k) _ a.0 (keep_in _ m.executions a.0 a.1
+          map_in (settled_execution k) _ a.0 (filter_in _ m.executions a.0 a.1
               (and_from _ _ (ap not (ne_eqb _ _ (λ z. o.1 (sym a.2 ∙ z)))) (goes_survives a.0.assumes ab a.3))),
           a.2,
           goes_after a.0.assumes ab a.3,

@@ -1,16 +1,17 @@
 -- A lock keeps an execution for each way in which the relied-on jobs may end: it pairs one that goes with that way with the version of the last maker that commits in it.
 use Rattle.std.proofs.Common.{◌≡◌, ℕ, ◌+◌, ◌≤◌, true, false, cond, not, eqb, ◌⊎◌, List, [], ◌∷◌, ◌++◌, map, sym, refl, ap, ◌∙◌, subst, inl, inr, arith}
+use Rattle.std.specs.Prelude.{filter}
 use Rattle.std.proofs.lemmas.Bool.{both_ways, cases_eq, cases_Bool, eqb-true, eq-eqb, ne_eqb, and_parts, and_from, le-leb, cond-true, cond-false}
 use Rattle.terms.specs.declared.modes.Mode.{Mode}
 use Rattle.protocol.specs.Assumptions.{commits_of, aborts_of}
 use Rattle.protocol.specs.declared.holdings.Holding.{Holding}
 use Rattle.protocol.specs.declared.assumptions.Execution.{Execution}
-use Rattle.protocol.specs.declared.assumptions.Version.{Version}
 use Rattle.terms.specs.declared.calls.Call.TheVariants.{Lock}
-use Rattle.protocol.specs.Holdings.{begins, makes, turned, jobs_of, makers, later_makers, spread}
-use Rattle.protocol.specs.Lists.{keep, In, Behind}
+use Rattle.protocol.specs.Holdings.{begins, makes, jobs_of, makers, later_makers, spread}
+use Rattle.protocol.specs.Lists.{In, Behind}
 use Rattle.protocol.specs.Model.{Model, executions_of, names}
 use Rattle.protocol.specs.Pairing.{offer, stored_offer, offers, is_kept, pairing, kept_pairs}
+use Rattle.protocol.specs.PairingLaws.{Makes}
 use Rattle.protocol.specs.Places.{has, single, join, without, size}
 use Rattle.protocol.specs.PlainRun.{Plain}
 use Rattle.protocol.specs.Step.{next}
@@ -18,15 +19,15 @@ use Rattle.terms.specs.Rule.{Rule}
 use Rattle.protocol.specs.declared.assumptions.Offer.{Offer}
 use Rattle.protocol.specs.Ranks.{Acyclic}
 use Rattle.protocol.proofs.Running.{Runs}
-use Rattle.protocol.proofs.SetDigits.{size_join, size_mono}
-use Rattle.protocol.proofs.Membership.{none_in, join_left, join_right, join_cases, in_without_one, without_one_in}
-use Rattle.protocol.proofs.SetSizes.{meet, meet_in, in_meet, apart_disjoint}
-use Rattle.protocol.proofs.Lists.{keep_in, over_keep, over_append, append_left, append_right, map_in, each_in, behind_in}
+use Rattle.protocol.proofs.SetDigits.{meet, new_in, apart_disjoint}
+use Rattle.protocol.proofs.Membership.{none_in, join_left, join_right, join_cases, in_without_one, without_one_in, meet_in, in_meet}
+use Rattle.protocol.proofs.SetSizes.{size_join, size_mono}
+use Rattle.protocol.proofs.Lists.{filter_in, append_left, append_right, map_in, each_in, behind_in}
 use Rattle.protocol.proofs.Reach.{spread_more, spread_next, spread_why}
 use Rattle.protocol.proofs.Chains.{AssumedIn, never_assumes_itself}
 use Rattle.protocol.proofs.Accepted.{Locks}
-use Rattle.protocol.proofs.Makers.{Maker, makers_why, why_makers, later_makes, later_why, why_later}
-use Rattle.protocol.proofs.WellFormed.{WellFormed, runs_small, over_kept_pairs, over_offers}
+use Rattle.protocol.proofs.Makers.{makers_why, why_makers, later_makes, later_why, why_later}
+use Rattle.protocol.proofs.WellFormed.{WellFormed, maker_of, runs_small, over_offers, over_locked}
 use Rattle.protocol.proofs.Consistent.{Consistent, pair_chain}
 use Rattle.protocol.proofs.Faithful.{Faithful}
 use Rattle.protocol.proofs.Covered.{GoesWith, ProvidedFor, Covered}
@@ -34,7 +35,7 @@ use Rattle.protocol.proofs.Covered.{GoesWith, ProvidedFor, Covered}
 -- ---- the last maker that commits
 -- in the way ab every maker of o aborts, or there is a last one that commits
 abbrev Last : List Holding → ℕ → ℕ → Type 0
-Last hs o ab = ((q : ℕ) → has (makers o hs) q ≡ true → has ab q ≡ true) ⊎ ((q : ℕ) × Maker hs o q × (has ab q ≡ false) × ((k : ℕ) → has (later_makers o q hs) k ≡ true → has ab k ≡ true))
+Last hs o ab = ((q : ℕ) → has (makers o hs) q ≡ true → has ab q ≡ true) ⊎ ((q : ℕ) × Makes hs o q × (has ab q ≡ false) × ((k : ℕ) → has (later_makers o q hs) k ≡ true → has ab k ≡ true))
 
 last_maker : (o ab : ℕ) (hs : List Holding) → ((g h : Holding) → Behind g h hs → g.job ≡ h.job → g.object ≡ h.object → ⊥) → Last hs o ab
 unfolding makers later_makers jobs_of
@@ -43,21 +44,20 @@ last_maker o ab (h ∷ hs) once = go (last_maker o ab hs (λ g k i. once g k (in
   where
     all : ((q : ℕ) → has (makers o hs) q ≡ true → has ab q ≡ true) → (makes o h ≡ true → has ab h.job ≡ true) → Last (h ∷ hs) o ab
     all f g = inl (λ q e. let w = makers_why (h ∷ hs) o q e in elim w.there [
-      | inl z ↦ subst (λ x. has ab x ≡ true) (ap (λ y. y.job) z ∙ w.job) (g (and_from _ _ (eq-eqb _ _ (ap (λ y. y.object) z ∙ w.object)) (ap (λ y. turned y.state) z ∙ w.turned)))
-      | inr i ↦ f q (why_makers hs o q (record { holding = w.holding; there = i; job = w.job; object = w.object; turned = w.turned }))
+      | inl z ↦ grind (arith, z, w, g)
+      | inr i ↦ f q (why_makers hs o q (record { holding = w.holding; there = i; job = w.job; object = w.object; turns = w.turns }))
     ])
 
     go : Last hs o ab → Last (h ∷ hs) o ab
     go (inr w) = inr (
       w.0,
-      record { holding = w.1.holding; there = inr w.1.there; job = w.1.job; object = w.1.object; turned = w.1.turned },
+      record { holding = w.1.holding; there = inr w.1.there; job = w.1.job; object = w.1.object; turns = w.1.turns },
       w.2,
       λ k e.
           let y = later_why (h ∷ hs) o w.0 k e in
-          let z = and_parts _ _ y.3 in
-          elim y.2 [
-            | inl i ↦ absurd (once h w.1.holding (inl (refl, w.1.there)) (ap (λ g. g.job) i.0 ∙ eqb-true _ _ z.0 ∙ sym w.1.job) (ap (λ g. g.object) i.0 ∙ eqb-true _ _ z.1 ∙ sym w.1.object))
-            | inr i ↦ w.3 k (subst (λ x. has (later_makers o w.0 hs) x ≡ true) y.4 (why_later hs o w.0 y.0 y.1 i y.3 y.5 y.6))
+          elim y.order [
+            | inl i ↦ absurd (once h w.1.holding (inl (refl, w.1.there)) (ap (λ g. g.job) i.0 ∙ y.of ∙ sym w.1.job) (ap (λ g. g.object) i.0 ∙ y.object ∙ sym w.1.object))
+            | inr i ↦ w.3 k (why_later hs o w.0 k (record { earlier = y.earlier; later = y.later; order = i; of = y.of; object = y.object; by = y.by; same = y.same; turns = y.turns }))
           ],
     )
     go (inl f) = elim (cases_Bool (makes o h)) [
@@ -68,14 +68,12 @@ last_maker o ab (h ∷ hs) once = go (last_maker o ab hs (λ g k i. once g k (in
             let z = and_parts _ _ e in
             inr (
               h.job,
-              record { holding = h; there = inl refl; job = refl; object = eqb-true _ _ z.0; turned = z.1 },
+              record { holding = h; there = inl refl; job = refl; object = eqb-true _ _ z.0; turns = z.1 },
               d,
               λ k i.
                   let y = later_why (h ∷ hs) o h.job k i in
-                  f k (elim y.2 [
-                    | inl j ↦ why_makers hs o k (record { holding = y.1; there = j.1; job = y.4; object = y.5; turned = y.6 })
-                    | inr j ↦ why_makers hs o k (record { holding = y.1; there = (behind_in hs _ _ j).1; job = y.4; object = y.5; turned = y.6 })
-                  ]),
+                  let there : In y.later hs = elim y.order [ inl j ↦ j.1 | inr j ↦ (behind_in hs _ _ j).1 ] in
+                  f k (why_makers hs o k (record { holding = y.later; there = there; job = y.by; object = y.same; turns = y.turns })),
             )
       ]
     ]
@@ -103,8 +101,8 @@ module _ (r : Rule) (m : Model) (s : Plain) (p o : ℕ) (mode : Mode) (relied go
   -- what p relies on now has what it relied on, the makers, and what these rely on
   from_old : (q k : ℕ) → Runs m q → has (relied q) k ≡ true → has (grown q) k ≡ true
   from_old q k h i = elim (cases_eq q p) [
-    | inl e ↦ subst (λ n. has n k ≡ true) (sym (grown_own q e)) (without_one_in _ p k (join_left _ _ k (subst (λ z. has (relied z) k ≡ true) e i)) (λ z. (y.running q h k i).1 (z ∙ sym e)))
-    | inr n ↦ subst (λ z. has z k ≡ true) (sym (grown_other q n)) i
+    | inl e ↦ grind (arith, e, i, (y.running q h k i).1, without_one_in (join (relied p) (spread relied 16 mk)) p k, join_left (relied p) (spread relied 16 mk) k)
+    | inr n ↦ grind (arith, n, i)
   ]
 
   from_maker : (k : ℕ) → has mk k ≡ true → has (grown p) k ≡ true
@@ -113,15 +111,12 @@ module _ (r : Rule) (m : Model) (s : Plain) (p o : ℕ) (mode : Mode) (relied go
   from_beyond : (q k : ℕ) → has mk q ≡ true → has (relied q) k ≡ true → (k ≡ p → ⊥) → has (grown p) k ≡ true
   from_beyond q k i j n = subst (λ z. has z k ≡ true) (sym (grown_own p refl)) (without_one_in _ p k (join_right _ _ k (spread_next relied 16 mk q k (runs_small m sh q (maker_runs q i).0) i j)) n)
 
-  maker_of : (v : Version) → In v m.versions → v.object ≡ o → Maker m.holdings o v.maker
-  maker_of v i e = let w = sh.made_by v i in record { holding = w.0; there = w.1; job = w.2; object = w.3 ∙ e; turned = w.4 }
-
   -- what an offer assumes about is relied on from now on
   offer_relied : (z : Offer) → In z (offers m o) → (k : ℕ) → (k ≡ p → ⊥) → (has (commits_of z.assumes) k ≡ true) ⊎ (has (aborts_of z.assumes) k ≡ true) → has (grown p) k ≡ true
   offer_relied = over_offers _ m o
       (λ k n. elim [ inl e ↦ none_in k e | inr e ↦ from_maker k e ])
       (λ v i d k n.
-      let mv = why_makers m.holdings o v.maker (maker_of v i d) in
+      let mv = why_makers m.holdings o v.maker (maker_of m sh o v i d) in
       let by_version : AssumedIn v.assumes k → has (grown p) k ≡ true =
       λ t. elim (y.version_relied v i k t) [ inl e ↦ subst (λ q. has (grown p) q ≡ true) (sym e) (from_maker v.maker mv) | inr e ↦ from_beyond v.maker k mv e n ] in
       elim [ inl e ↦ by_version (inl e) | inr e ↦ elim (join_cases _ _ k e) [ inl g ↦ by_version (inr g) | inr g ↦ from_maker k (later_makes m.holdings o v.maker k g) ] ])
@@ -129,16 +124,14 @@ module _ (r : Rule) (m : Model) (s : Plain) (p o : ℕ) (mode : Mode) (relied go
   -- a job that is able now was able before
   able_old : (k ab : ℕ) → ProvidedFor (next r m (Lock p o mode)).executions k ab → ProvidedFor m.executions k ab
   unfolding next
-  able_old k ab a = over_append (λ e. e.job ≡ k → GoesWith e.assumes ab → ProvidedFor m.executions k ab) (keep (λ e. not (names p e)) m.executions) (kept_pairs r m p o mode)
-      (over_keep _ _ m.executions (λ e i t j g. (e, i, j, g)))
-      (over_kept_pairs _ r m p o mode (λ e i j z l t d g. (e, i, d, record { on_commits = λ q c. g.on_commits q (join_left _ _ q c); on_aborts = λ q c. g.on_aborts q (join_left _ _ q c) })))
+  able_old k ab a = over_locked (λ e. e.job ≡ k → GoesWith e.assumes ab → ProvidedFor m.executions k ab) r m p o mode (λ e i t j g. (e, i, j, g)) (λ e i j z l t d g. (e, i, d, record { on_commits = λ q c. g.on_commits q (join_left _ _ q c); on_aborts = λ q c. g.on_aborts q (join_left _ _ q c) }))
       a.0 a.1 a.2 a.3
 
   in_paired : (e : Execution) → In e m.executions → e.job ≡ p → (z : Offer) → In z (offers m o) → is_kept m.robustness (pairing r m p o mode e z) ≡ true → In (pairing r m p o mode e z) (kept_pairs r m p o mode)
   unfolding kept_pairs
   in_paired e i j z l t =
-      each_in (λ e. keep (is_kept m.robustness) (map (pairing r m p o mode e) (offers m o))) (executions_of p m) e (keep_in (names p) m.executions e i (eq-eqb _ _ j)) (pairing r m p o mode e z)
-      (keep_in (is_kept m.robustness) (map (pairing r m p o mode e) (offers m o)) (pairing r m p o mode e z) (map_in (pairing r m p o mode e) (offers m o) z l) t)
+      each_in (λ e. filter (is_kept m.robustness) (map (pairing r m p o mode e) (offers m o))) (executions_of p m) e (filter_in (names p) m.executions e i (eq-eqb _ _ j)) (pairing r m p o mode e z)
+      (filter_in (is_kept m.robustness) (map (pairing r m p o mode e) (offers m o)) (pairing r m p o mode e z) (map_in (pairing r m p o mode e) (offers m o) z l) t)
 
   -- an offer that goes with ab, where each maker that commits in it is able
   good_offer : (ab : ℕ) → ((q : ℕ) → has mk q ≡ true → has ab q ≡ false → ProvidedFor m.executions q ab) → (z : Offer) × In z (offers m o) × GoesWith z.assumes ab
@@ -147,10 +140,10 @@ module _ (r : Rule) (m : Model) (s : Plain) (p o : ℕ) (mode : Mode) (relied go
     | inl all ↦ (stored_offer m o, inl refl, record { on_commits = λ k c. none_in k c; on_aborts = all })
     | inr w ↦
         let a = able w.0 (why_makers m.holdings o w.0 w.1) w.2 in
-        let g = f.made a.0 a.1 o (w.1.holding, w.1.there, w.1.job ∙ sym a.2, w.1.object, w.1.turned) in
+        let g = f.made a.0 a.1 o (w.1.holding, w.1.there, w.1.job ∙ sym a.2, w.1.object, w.1.turns) in
         let same : g.version.maker ≡ w.0 = g.maker ∙ a.2 in (
           offer m.holdings o g.version,
-          inr (map_in (offer m.holdings o) _ g.version (keep_in _ m.versions g.version g.there (eq-eqb _ _ g.object))),
+          inr (map_in (offer m.holdings o) _ g.version (filter_in _ m.versions g.version g.there (eq-eqb _ _ g.object))),
           record {
             on_commits = λ k c. elim (g.on_commits k c) [ inl d ↦ a.3.on_commits k d | inr d ↦ subst (λ q. has ab q ≡ false) (sym (d ∙ a.2)) w.2 ];
             on_aborts = λ k c. elim (join_cases _ _ k c) [ inl d ↦ a.3.on_aborts k (g.on_aborts k d) | inr d ↦ w.3 k (subst (λ q. has (later_makers o q m.holdings) k ≡ true) same d) ];
@@ -170,20 +163,24 @@ module _ (r : Rule) (m : Model) (s : Plain) (p o : ℕ) (mode : Mode) (relied go
     by_old k t = from_old p k b.runs (subst (λ q. has (relied q) k ≡ true) j (y.execution_relied e i k t))
 
     pair_relied : (k : ℕ) → AssumedIn e'.assumes k → has (grown p) k ≡ true
-    pair_relied k t = go t (not_p k t)
-      where
-        go : AssumedIn e'.assumes k → (k ≡ p → ⊥) → has (grown p) k ≡ true
-        go (inl c) n = elim (join_cases _ _ k c) [ inl d ↦ by_old k (inl d) | inr d ↦ offer_relied z l k n (inl d) ]
-        go (inr c) n = elim (join_cases _ _ k c) [ inl d ↦ by_old k (inr d) | inr d ↦ offer_relied z l k n (inr d) ]
+    pair_relied k t = grind (
+      arith,
+      t,
+      not_p k t,
+      by_old k,
+      offer_relied z l k,
+      join_cases (commits_of e.assumes) (commits_of z.assumes) k,
+      join_cases (aborts_of e.assumes) (aborts_of z.assumes) k,
+    )
 
     pair_counted : e'.tally ≤ gone e.job + size (aborts_of e'.assumes)
-    pair_counted = omega (arith, y.counted e i, size_join (aborts_of e.assumes) (aborts_of z.assumes))
+    pair_counted = omega (arith, y.counted e i, size_join (aborts_of e.assumes) (aborts_of z.assumes), ap size (new_in (aborts_of e.assumes) (aborts_of z.assumes)))
 
     pair_able : (ab : ℕ) → GoesWith e.assumes ab → GoesWith z.assumes ab → gone p + size (meet (grown p) ab) ≤ m.robustness → (is_kept m.robustness e' ≡ true) × GoesWith e'.assumes ab
     pair_able ab g h few =
         let goes : GoesWith e'.assumes ab = record {
-          on_commits = λ k c. elim (join_cases _ _ k c) [ inl d ↦ g.on_commits k d | inr d ↦ h.on_commits k d ];
-          on_aborts = λ k c. elim (join_cases _ _ k c) [ inl d ↦ g.on_aborts k d | inr d ↦ h.on_aborts k d ];
+          on_commits = λ k c. grind (arith, join_cases _ _ k c, g.on_commits k, h.on_commits k);
+          on_aborts = λ k c. grind (arith, join_cases _ _ k c, g.on_aborts k, h.on_aborts k);
         } in
         let most : size (aborts_of e'.assumes) ≤ size (meet (grown p) ab) = size_mono _ _ (λ k c. meet_in (grown p) ab k (pair_relied k (inr c)) (goes.on_aborts k c)) in
         (and_from _ _ (apart_disjoint _ _ (λ k c d. both_ways _ (goes.on_commits k c) (goes.on_aborts k d))) (le-leb _ _ (omega (arith, pair_counted, ap gone j))), goes)
@@ -196,7 +193,7 @@ module _ (r : Rule) (m : Model) (s : Plain) (p o : ℕ) (mode : Mode) (relied go
       let a = y.complete p b.runs ab (λ k i u. able_old k ab (able k (from_old p k b.runs i) u)) (omega arith) in
       let z = good_offer ab (λ q i u. able_old q ab (able q (from_maker q i) u)) in
       let g = pair_able a.0 a.1 a.2 z.0 z.1 ab a.3 z.2 few in
-      (pairing r m p o mode a.0 z.0, append_right (keep (λ e. not (names p e)) m.executions) _ _ (in_paired a.0 a.1 a.2 z.0 z.1 g.0), a.2, g.1)
+      (pairing r m p o mode a.0 z.0, append_right (filter (λ e. not (names p e)) m.executions) _ _ (in_paired a.0 a.1 a.2 z.0 z.1 g.0), a.2, g.1)
 
   pub covered_lock : Covered (next r m (Lock p o mode)) grown gone
   unfolding next
@@ -212,18 +209,14 @@ module _ (r : Rule) (m : Model) (s : Plain) (p o : ℕ) (mode : Mode) (relied go
           )
       | inr n ↦ y.running q h k (subst (λ z. has z k ≡ true) (grown_other q n) i)
     ];
-    execution_relied = over_append (λ e. (k : ℕ) → AssumedIn e.assumes k → has (grown e.job) k ≡ true) (keep (λ e. not (names p e)) m.executions) (kept_pairs r m p o mode)
-        (over_keep _ _ m.executions (λ e i t k c. from_old e.job k (sh.worked_by e i).0 (y.execution_relied e i k c)))
-        (over_kept_pairs _ r m p o mode (λ e i j z l t k c. subst (λ q. has (grown q) k ≡ true) (sym j) (pair_relied e i j z l k c)));
+    execution_relied = over_locked (λ e. (k : ℕ) → AssumedIn e.assumes k → has (grown e.job) k ≡ true) r m p o mode (λ e i t k c. from_old e.job k (sh.worked_by e i).0 (y.execution_relied e i k c)) (λ e i j z l t k c. subst (λ q. has (grown q) k ≡ true) (sym j) (pair_relied e i j z l k c));
     version_relied = λ v i k c. let h = sh.made_by v i in
         elim (y.version_relied v i k c) [ inl e ↦ inl e | inr e ↦ inr (from_old v.maker k (subst (Runs m) h.2 (sh.held_by h.0 h.1).0) e) ];
-    counted = over_append (λ e. e.tally ≤ gone e.job + size (aborts_of e.assumes)) (keep (λ e. not (names p e)) m.executions) (kept_pairs r m p o mode)
-        (over_keep _ _ m.executions (λ e i t. y.counted e i))
-        (over_kept_pairs _ r m p o mode (λ e i j z l t. pair_counted e i j z l));
+    counted = over_locked (λ e. e.tally ≤ gone e.job + size (aborts_of e.assumes)) r m p o mode (λ e i t. y.counted e i) (λ e i j z l t. pair_counted e i j z l);
     complete = λ q h ab able few. elim (cases_eq q p) [
       | inl e ↦ subst (λ x. ProvidedFor (next r m (Lock p o mode)).executions x ab) (sym e) (complete_own ab (λ k i u. able k (subst (λ x. has (grown x) k ≡ true) (sym e) i) u) (subst (λ x. gone x + size (meet (grown x) ab) ≤ m.robustness) e few))
       | inr n ↦
           let a = y.complete q h ab (λ k i u. able_old k ab (able k (from_old q k h i) u)) (omega (arith, few, ap (λ x. size (meet x ab)) (grown_other q n))) in
-          (a.0, append_left (keep (λ e. not (names p e)) m.executions) _ _ (keep_in _ m.executions a.0 a.1 (ap not (ne_eqb _ _ (λ z. n (sym a.2 ∙ z))))), a.2, a.3)
+          (a.0, append_left (filter (λ e. not (names p e)) m.executions) _ _ (filter_in _ m.executions a.0 a.1 (ap not (ne_eqb _ _ (λ z. n (sym a.2 ∙ z))))), a.2, a.3)
     ];
   }

@@ -1,6 +1,7 @@
 -- The book follows the plain run: what each execution met, worked out and made is what the job's own calls give on the values met.
 -- Here the statement, a new book and a begin. Words: `play` of specs/PlainRun, `Before`.
 use Rattle.std.proofs.Common.{◌≡◌, ℕ, ◌<◌, true, ◌⊎◌, List, [], ◌∷◌, ◌++◌, length, get_or, set, Some, None, sym, refl, ap, ◌∙◌, subst, inl, inr, arith, get_or-set_other, get_or-set_same}
+use Rattle.std.specs.Prelude.{is_some, filter}
 use Rattle.std.proofs.lemmas.Bool.{cases_eq, eqb-true, eq-eqb, ne_eqb}
 use Rattle.protocol.specs.declared.holdings.Holding.{Holding}
 use Rattle.protocol.specs.declared.assumptions.Execution.{Execution}
@@ -9,15 +10,15 @@ use Rattle.protocol.specs.declared.jobs.Job.{Job}
 use Rattle.terms.specs.declared.calls.Call.{Call}
 use Rattle.terms.specs.declared.calls.Call.TheVariants.{Begin}
 use Rattle.protocol.specs.Holdings.{turned, position}
-use Rattle.protocol.specs.Lists.{keep, In, is_some}
+use Rattle.protocol.specs.Lists.{In}
 use Rattle.protocol.specs.Model.{Model, new, job_at, kind_of, argument_of}
 use Rattle.protocol.specs.Past.{place_of, is_at}
-use Rattle.protocol.specs.PlainRun.{play_one, play, fresh, Plain, plain_one}
+use Rattle.protocol.specs.PlainRun.{Playing, play_one, play, fresh, Plain, plain_one}
 use Rattle.protocol.specs.Step.{next}
 use Rattle.terms.specs.Rule.{Rule}
 use Rattle.protocol.proofs.Running.{Runs, nobody_runs}
 use Rattle.protocol.proofs.Lists.{over_push}
-use Rattle.protocol.proofs.Filters.{keep_push_yes, keep_push_no, keep_none}
+use Rattle.protocol.proofs.Filters.{filter_push_yes, filter_push_no, filter_none}
 use Rattle.protocol.proofs.Playing.{play_push}
 use Rattle.protocol.proofs.Chains.{CommitIn, AbortIn, Within}
 use Rattle.protocol.proofs.Accepted.{Begins}
@@ -64,7 +65,7 @@ HasTurned hs p o = (h : Holding) × In h hs × (h.job ≡ p) × (h.object ≡ o)
 
 -- the accepted calls of the job at place p
 abbrev pub calls_of : Plain → ℕ → List Call
-calls_of s p = keep (is_at p) s.pending
+calls_of s p = filter (is_at p) s.pending
 
 pub record Faithful (r : Rule) (m : Model) (s : Plain) : Type 0 where
   -- plain: the stored values are those of the plain run
@@ -85,11 +86,18 @@ pub record Faithful (r : Rule) (m : Model) (s : Plain) : Type 0 where
 
 -- ---- one more call among the pending ones
 module _ (r : Rule) (cs : List Call) (c : Call) (q : ℕ) where
-  pub push_own : place_of c ≡ q → (ys : List ℕ) → play r (fresh ys) (keep (is_at q) (cs ++ c ∷ [])) ≡ play_one r (play r (fresh ys) (keep (is_at q) cs)) c
-  push_own e ys = ap (play r (fresh ys)) (keep_push_yes (is_at q) cs c (eq-eqb _ _ e)) ∙ play_push r (fresh ys) (keep (is_at q) cs) c
+  pub push_own : place_of c ≡ q → (ys : List ℕ) → play r (fresh ys) (filter (is_at q) (cs ++ c ∷ [])) ≡ play_one r (play r (fresh ys) (filter (is_at q) cs)) c
+  push_own e ys = ap (play r (fresh ys)) (filter_push_yes (is_at q) cs c (eq-eqb _ _ e)) ∙ play_push r (fresh ys) (filter (is_at q) cs) c
 
-  pub push_other : (place_of c ≡ q → ⊥) → keep (is_at q) (cs ++ c ∷ []) ≡ keep (is_at q) cs
-  push_other n = keep_push_no (is_at q) cs c (ne_eqb _ _ n)
+  pub push_other : (place_of c ≡ q → ⊥) → filter (is_at q) (cs ++ c ∷ []) ≡ filter (is_at q) cs
+  push_other n = filter_push_no (is_at q) cs c (ne_eqb _ _ n)
+
+  -- what the call leaves alone
+  pub push_keeps : {X : Type 0} (g : Playing → X) → ((t : Playing) → g (play_one r t c) ≡ g t) → (ys : List ℕ) → g (play r (fresh ys) (filter (is_at q) (cs ++ c ∷ []))) ≡ g (play r (fresh ys) (filter (is_at q) cs))
+  push_keeps g k ys = elim (cases_eq (place_of c) q) [
+    | inl e ↦ ap g (push_own e ys) ∙ k (play r (fresh ys) (filter (is_at q) cs))
+    | inr n ↦ ap (λ ds. g (play r (fresh ys) ds)) (push_other n)
+  ]
 
 -- ---- a new book
 pub faithful_new : (r : Rule) (x l : ℕ) (values : List ℕ) → Faithful r (new x l values) (record { values = values; pending = [] })
@@ -114,7 +122,7 @@ module _ (r : Rule) (m : Model) (s : Plain) (p k a : ℕ) (b : Begins m p) (sh :
 
   -- p has no pending call, no holding, no execution
   no_calls : calls_of s p ≡ []
-  no_calls = keep_none (is_at p) s.pending (λ c i t. b.idle (subst (Runs m) (eqb-true _ _ t) (f.runs c i)))
+  no_calls = filter_none (is_at p) s.pending (λ c i t. b.idle (subst (Runs m) (eqb-true _ _ t) (f.runs c i)))
 
   inside : p < length m.jobs
   inside = omega (arith, sh.places, b.small)
@@ -125,7 +133,7 @@ module _ (r : Rule) (m : Model) (s : Plain) (p k a : ℕ) (b : Begins m p) (sh :
   at_other : (q : ℕ) → (p ≡ q → ⊥) → get_or (set m.jobs p (Some job)) q None ≡ get_or m.jobs q None
   at_other q n = get_or-set_other m.jobs p q (Some job) None (λ e. n (sym e))
 
-  own_play : (q : ℕ) → p ≡ q → (ys : List ℕ) → play r (fresh ys) (keep (is_at q) (s.pending ++ begin ∷ [])) ≡ play_one r (fresh ys) begin
+  own_play : (q : ℕ) → p ≡ q → (ys : List ℕ) → play r (fresh ys) (filter (is_at q) (s.pending ++ begin ∷ [])) ≡ play_one r (fresh ys) begin
   unfolding begin play
   own_play q e ys = push_own r s.pending begin q e ys ∙ ap (λ cs. play_one r (play r (fresh ys) cs) begin) (ap (λ x. calls_of s x) (sym e) ∙ no_calls)
 
@@ -145,10 +153,10 @@ module _ (r : Rule) (m : Model) (s : Plain) (p k a : ℕ) (b : Begins m p) (sh :
       | inl e ↦ ap (λ t. get_or t.values o 0) (own_play q e ys)
       | inr d ↦ ap (λ cs. get_or (play r (fresh ys) cs).values o 0) (push_other r s.pending begin q d) ∙ f.others q o n ys
     ];
-    work = over_push (λ e. (ys : List ℕ) → Agrees m.holdings (length m.values) e ys → (play r (fresh ys) (keep (is_at e.job) (s.pending ++ begin ∷ []))).work ≡ e.work) m.executions _
+    work = over_push (λ e. (ys : List ℕ) → Agrees m.holdings (length m.values) e ys → (play r (fresh ys) (filter (is_at e.job) (s.pending ++ begin ∷ []))).work ≡ e.work) m.executions _
         (λ e i ys g. ap (λ cs. (play r (fresh ys) cs).work) (push_other r s.pending begin e.job (other_job _ (sh.worked_by e i).0)) ∙ f.work e i ys g)
         (λ ys g. ap (λ t. t.work) (own_play p refl ys));
-    made = over_push (λ e. (o : ℕ) → HasTurned m.holdings e.job o → Made r (keep (is_at e.job) (s.pending ++ begin ∷ [])) m.holdings m.versions (length m.values) e o) m.executions _
+    made = over_push (λ e. (o : ℕ) → HasTurned m.holdings e.job o → Made r (filter (is_at e.job) (s.pending ++ begin ∷ [])) m.holdings m.versions (length m.values) e o) m.executions _
         (λ e i o t. subst (λ cs. Made r cs m.holdings m.versions (length m.values) e o) (sym (push_other r s.pending begin e.job (other_job _ (sh.worked_by e i).0))) (f.made e i o t))
         (λ o t. absurd (b.idle (subst (Runs m) t.2 (sh.held_by t.0 t.1).0)));
     met = over_push (λ e. (h : Holding) → In h m.holdings → h.job ≡ e.job → MetStore m.holdings m.values e h.object ⊎ MetVersion m.holdings m.versions e h.object) m.executions _

@@ -1,6 +1,8 @@
 -- The end of a job keeps the book with the plain run: survivors met what is still there, and a commit writes what the plain run of the job writes.
 use Rattle.std.proofs.Common.{◌≡◌, ℕ, ◌<◌, Bool, true, false, not, ◌&&◌, eqb, ◌⊎◌, List, [], length, get_or, set, None, sym, refl, ap, ◌∙◌, subst, inl, inr, arith, get_or-set_other, ext_get_or}
-use Rattle.std.proofs.lemmas.Bool.{both_ways, cases_eq, cases_Bool, eqb-true, eqb-false, eq-eqb, ne_eqb, and_parts, and_from, not-true}
+use Rattle.std.specs.Prelude.{filter}
+use Rattle.std.specs.List.{list_any}
+use Rattle.std.proofs.lemmas.Bool.{both_ways, cases_eq, eqb-true, eqb-false, eq-eqb, ne_eqb, and_parts, and_from, not-true}
 use Rattle.protocol.specs.declared.holdings.Holding.{Holding}
 use Rattle.protocol.specs.declared.assumptions.Assumption.{Assumption}
 use Rattle.protocol.specs.declared.assumptions.Execution.{Execution}
@@ -9,37 +11,37 @@ use Rattle.terms.specs.declared.calls.Call.{Call}
 use Rattle.terms.specs.declared.calls.Call.TheVariants.{Commit, Abort}
 use Rattle.protocol.specs.Ending.{written}
 use Rattle.protocol.specs.Holdings.{holds, turned, waits}
-use Rattle.protocol.specs.Lists.{keep, any, In}
+use Rattle.protocol.specs.Lists.{In}
 use Rattle.protocol.specs.Model.{Model, kind_of, argument_of}
 use Rattle.protocol.specs.Past.{is_at}
 use Rattle.protocol.specs.Places.{has}
 use Rattle.protocol.specs.PlainRun.{play, fresh, Plain, plain_one}
-use Rattle.protocol.specs.Settling.{denied, survives, settled_execution, settled_version, settle}
+use Rattle.protocol.specs.Settling.{survives, settled_execution, settled_version, settle}
 use Rattle.protocol.specs.Step.{next}
 use Rattle.terms.specs.Rule.{Rule}
 use Rattle.protocol.specs.declared.jobs.Ending.{Ending}
 use Rattle.protocol.specs.declared.jobs.Ending.TheVariants.{Committed, Aborted}
 use Rattle.protocol.proofs.Running.{Runs, runs_ended, ended_runs}
 use Rattle.protocol.proofs.Membership.{none_in, in_without_one, without_one_in}
-use Rattle.protocol.proofs.Lists.{in_keep, keep_in, over_keep, map_in, over_map, any_in, in_any, pairs_two}
+use Rattle.protocol.proofs.Lists.{in_filter, filter_in, over_filter, map_in, any_in, in_any, pairs_two, over_part}
 use Rattle.protocol.proofs.Waiting.{rest}
-use Rattle.protocol.proofs.Filters.{keep_keep, keep_none}
+use Rattle.protocol.proofs.Filters.{filter_twice, filter_none}
 use Rattle.protocol.proofs.Positions.{position_rest}
 use Rattle.protocol.proofs.Playing.{length_play}
 use Rattle.protocol.proofs.Writing.{made_is, written_other, written_same, length_written}
-use Rattle.protocol.proofs.Chains.{CommitIn, AbortIn, Conflict, within_settled, within_survives, waits_none_assumes_none, waits_none_assumes_itself}
+use Rattle.protocol.proofs.Chains.{CommitIn, AbortIn, Conflict, within_settled, within_survives}
 use Rattle.protocol.proofs.Accepted.{Commits}
 use Rattle.protocol.proofs.Before.{Before, before_maker, before_either, before_rest, rest_before}
 use Rattle.protocol.proofs.WellFormed.{WellFormed, runs_small}
-use Rattle.protocol.proofs.Consistent.{Consistent, VersionsApart}
+use Rattle.protocol.proofs.Consistent.{Consistent, VersionsApart, assumes_none, aborts_none}
 use Rattle.protocol.proofs.Faithful.{met_at, Agrees, MetStore, MetVersion, Made, HasTurned, calls_of, Faithful}
 
 -- the calls of another job stay, those of the ended one are gone
-pub calls_other : (cs : List Call) (k q : ℕ) → (q ≡ k → ⊥) → keep (is_at q) (keep (λ c. not (is_at k c)) cs) ≡ keep (is_at q) cs
-calls_other cs k q n = keep_keep (is_at q) (λ c. not (is_at k c)) cs (λ c t. ap not (ne_eqb _ _ (λ e. n (sym (eqb-true _ _ t) ∙ e))))
+calls_other : (cs : List Call) (k q : ℕ) → (q ≡ k → ⊥) → filter (is_at q) (filter (λ c. not (is_at k c)) cs) ≡ filter (is_at q) cs
+calls_other cs k q n = filter_twice (is_at q) (λ c. not (is_at k c)) cs (λ c t. ap not (ne_eqb _ _ (λ e. n (sym (eqb-true _ _ t) ∙ e))))
 
-pub calls_ended : (cs : List Call) (k : ℕ) → keep (is_at k) (keep (λ c. not (is_at k c)) cs) ≡ []
-calls_ended cs k = keep_none (is_at k) _ (over_keep _ _ cs (λ c i t u. both_ways _ (not-true _ t) u))
+calls_ended : (cs : List Call) (k : ℕ) → filter (is_at k) (filter (λ c. not (is_at k c)) cs) ≡ []
+calls_ended cs k = filter_none (is_at k) _ (over_filter _ _ cs (λ c i t u. both_ways _ (not-true _ t) u))
 
 module _ (r : Rule) (m : Model) (s : Plain) (w : Ending) (k : ℕ) (values' : List ℕ) (sh : WellFormed m) (x : Consistent m) (f : Faithful r m s)
     (runs_k : Runs m k) (long : length values' ≡ length m.values)
@@ -53,16 +55,16 @@ module _ (r : Rule) (m : Model) (s : Plain) (w : Ending) (k : ℕ) (values' : Li
   hs' = rest k m.holdings
 
   abbrev pending' : List Call
-  pending' = keep (λ c. not (is_at k c)) s.pending
+  pending' = filter (λ c. not (is_at k c)) s.pending
 
   agrees_old : (e : Execution) → (e.job ≡ k → ⊥) → (ys : List ℕ) → Agrees hs' (length values') (settled_execution k e) ys → Agrees hs (length m.values) e ys
-  agrees_old e d ys g = record { long = g.long ∙ long; meets = λ h i q. g.meets h (keep_in _ hs h i (ap not (ne_eqb _ _ (λ z. d (sym q ∙ z))))) q ∙ ap (λ n. get_or e.met n 0) (position_rest k e.job h.object hs d) }
+  agrees_old e d ys g = record { long = g.long ∙ long; meets = λ h i q. g.meets h (filter_in _ hs h i (ap not (ne_eqb _ _ (λ z. d (sym q ∙ z))))) q ∙ ap (λ n. get_or e.met n 0) (position_rest k e.job h.object hs d) }
 
   turns_old : (q o : ℕ) → HasTurned hs' q o → HasTurned hs q o
-  turns_old q o t = (t.0, (in_keep _ hs t.0 t.1).0, t.2, t.3, t.4)
+  turns_old q o t = (t.0, (in_filter _ hs t.0 t.1).0, t.2, t.3, t.4)
 
   turns_new : (q o : ℕ) → (q ≡ k → ⊥) → HasTurned hs q o → HasTurned hs' q o
-  turns_new q o d t = (t.0, keep_in _ hs t.0 t.1 (ap not (ne_eqb _ _ (λ z. d (sym t.2 ∙ z)))), t.2, t.3, t.4)
+  turns_new q o d t = (t.0, filter_in _ hs t.0 t.1 (ap not (ne_eqb _ _ (λ z. d (sym t.2 ∙ z)))), t.2, t.3, t.4)
 
   inside : k < length m.jobs
   inside = omega (arith, sh.places, runs_small m sh k runs_k)
@@ -72,20 +74,20 @@ module _ (r : Rule) (m : Model) (s : Plain) (w : Ending) (k : ℕ) (values' : Li
 
   -- a version that goes with a survivor survives
   version_survives : (a v : Assumption) (j : ℕ) → (j ≡ k → ⊥) → survives w k a ≡ true → ((q : ℕ) → CommitIn v q → CommitIn a q ⊎ (q ≡ j)) → ((q : ℕ) → AbortIn v q → AbortIn a q) → survives w k v ≡ true
-  version_survives a v j d t on_commits on_aborts = elim (cases_Bool (has (denied w v) k)) [ inl e ↦ absurd (go w t e) | inr e ↦ ap not e ]
+  version_survives a v j d t on_commits on_aborts = go w t
     where
-      go : (w : Ending) → survives w k a ≡ true → has (denied w v) k ≡ true → ⊥
-      go Committed t e = both_ways _ (not-true _ t) (on_aborts k e)
-      go Aborted t e = elim (on_commits k e) [ inl c ↦ both_ways _ (not-true _ t) c | inr c ↦ d (sym c) ]
+      go : (w : Ending) → survives w k a ≡ true → survives w k v ≡ true
+      go Committed t = grind (arith, t, on_aborts k)
+      go Aborted t = grind (arith, t, d, on_commits k)
 
   made_left : (e : Execution) → In e m.executions → (e.job ≡ k → ⊥) → survives w k e.assumes ≡ true → (o : ℕ) → HasTurned hs' e.job o
-      → Made r (keep (is_at e.job) pending') hs' (settle w k values' m).versions (length values') (settled_execution k e) o
+      → Made r (filter (is_at e.job) pending') hs' (settle w k values' m).versions (length values') (settled_execution k e) o
   unfolding settle
   made_left e i d t o u =
       let g = f.made e i o (turns_old _ o u) in
       record {
         version = settled_version k g.version;
-        there = map_in (settled_version k) _ _ (keep_in _ m.versions g.version g.there
+        there = map_in (settled_version k) _ _ (filter_in _ m.versions g.version g.there
             (and_from _ _ (ap not (ne_eqb _ _ (λ z. d (sym g.maker ∙ z)))) (version_survives e.assumes g.version.assumes e.job d t g.on_commits g.on_aborts)));
         object = g.object;
         maker = g.maker;
@@ -98,22 +100,20 @@ module _ (r : Rule) (m : Model) (s : Plain) (w : Ending) (k : ℕ) (values' : Li
   unfolding settle play
   faithful_settle = record {
     values = refl;
-    runs = over_keep _ _ s.pending (λ c i t. runs_ended m.jobs k _ (eqb-false _ _ (not-true _ t)) (f.runs c i));
+    runs = over_filter _ _ s.pending (λ c i t. runs_ended m.jobs k _ (eqb-false _ _ (not-true _ t)) (f.runs c i));
     kind = λ q h ys.
         let y = ended_runs m.jobs k q inside h in
         let g = f.kind q y.0 ys in
         let o = calls_other s.pending k q y.1 in
         (ap (λ cs. (play r (fresh ys) cs).kind) o ∙ g.0 ∙ sym (ap kind_of (at_other q y.1)), ap (λ cs. (play r (fresh ys) cs).argument) o ∙ g.1 ∙ sym (ap argument_of (at_other q y.1)));
     others = λ q o t ys. elim (cases_eq q k) [
-      | inl e ↦ ap (λ cs. get_or (play r (fresh ys) cs).values o 0) (ap (λ z. keep (is_at z) pending') e ∙ calls_ended s.pending k)
+      | inl e ↦ ap (λ cs. get_or (play r (fresh ys) cs).values o 0) (ap (λ z. filter (is_at z) pending') e ∙ calls_ended s.pending k)
       | inr d ↦ ap (λ cs. get_or (play r (fresh ys) cs).values o 0) (calls_other s.pending k q d) ∙ f.others q o (λ u. t (turns_new q o d u)) ys
     ];
-    work = over_map (λ e. (ys : List ℕ) → Agrees hs' (length values') e ys → (play r (fresh ys) (keep (is_at e.job) pending')).work ≡ e.work) (settled_execution k) _ (over_keep _ _ m.executions (λ e i t ys g.
-        let d = left e t in ap (λ cs. (play r (fresh ys) cs).work) (calls_other s.pending k e.job d) ∙ f.work e i ys (agrees_old e d ys g)));
-    made = over_map (λ e. (o : ℕ) → HasTurned hs' e.job o → Made r (keep (is_at e.job) pending') hs' (settle w k values' m).versions (length values') e o) (settled_execution k) _
-        (over_keep _ _ m.executions (λ e i t. made_left e i (left e t) (and_parts _ _ t).1));
-    met = over_map (λ e. (h : Holding) → In h hs' → h.job ≡ e.job → MetStore hs' values' e h.object ⊎ MetVersion hs' (settle w k values' m).versions e h.object) (settled_execution k) _
-        (over_keep _ _ m.executions (λ e i t h j q. met' e i (left e t) (and_parts _ _ t).1 h (in_keep _ hs h j).0 q));
+    work = over_part (λ e. (ys : List ℕ) → Agrees hs' (length values') e ys → (play r (fresh ys) (filter (is_at e.job) pending')).work ≡ e.work) (settled_execution k) _ m.executions (λ e i t ys g.
+        let d = left e t in ap (λ cs. (play r (fresh ys) cs).work) (calls_other s.pending k e.job d) ∙ f.work e i ys (agrees_old e d ys g));
+    made = over_part (λ e. (o : ℕ) → HasTurned hs' e.job o → Made r (filter (is_at e.job) pending') hs' (settle w k values' m).versions (length values') e o) (settled_execution k) _ m.executions (λ e i t. made_left e i (left e t) (and_parts _ _ t).1);
+    met = over_part (λ e. (h : Holding) → In h hs' → h.job ≡ e.job → MetStore hs' values' e h.object ⊎ MetVersion hs' (settle w k values' m).versions e h.object) (settled_execution k) _ m.executions (λ e i t h j q. met' e i (left e t) (and_parts _ _ t).1 h (in_filter _ hs h j).0 q);
   }
     where
       left : (e : Execution) → (not (eqb e.job k) && survives w k e.assumes) ≡ true → e.job ≡ k → ⊥
@@ -128,7 +128,7 @@ module _ (m : Model) (w : Ending) (k : ℕ) (values' : List ℕ) (e : Execution)
   unfolding settle
   version_stays g n = record {
     version = settled_version k g.version;
-    there = map_in (settled_version k) _ _ (keep_in _ m.versions g.version g.there (and_from _ _ (ap not (ne_eqb _ _ n)) (within_survives w k _ _ g.within t)));
+    there = map_in (settled_version k) _ _ (filter_in _ m.versions g.version g.there (and_from _ _ (ap not (ne_eqb _ _ n)) (within_survives w k _ _ g.within t)));
     object = g.object;
     within = within_settled k _ _ g.within;
     value = met_same ∙ g.value;
@@ -140,7 +140,7 @@ module _ (m : Model) (w : Ending) (k : ℕ) (values' : List ℕ) (e : Execution)
 pub faithful_abort : (r : Rule) (m : Model) (s : Plain) (k : ℕ) → Runs m k → WellFormed m → Consistent m → Faithful r m s → Faithful r (next r m (Abort k)) (plain_one r s (Abort k))
 unfolding next
 faithful_abort r m s k runs sh x f =
-    subst (λ vs. Faithful r (settle Aborted k m.values m) (record { values = vs; pending = keep (λ c. not (is_at k c)) s.pending })) f.values
+    subst (λ vs. Faithful r (settle Aborted k m.values m) (record { values = vs; pending = filter (λ c. not (is_at k c)) s.pending })) f.values
     (faithful_settle r m s Aborted k m.values sh x f runs refl (λ e i d t h ih jh. go e d t h.object (f.met e i h ih jh)))
   where
     go : (e : Execution) → (e.job ≡ k → ⊥) → survives Aborted k e.assumes ≡ true → (o : ℕ) → MetStore m.holdings m.values e o ⊎ MetVersion m.holdings m.versions e o
@@ -167,13 +167,8 @@ module _ (r : Rule) (m : Model) (s : Plain) (k : ℕ) (b : Commits m k) (sh : We
     | inr l ↦ elim l [ inl a ↦ absurd (clash u v i j mu mv (a o (mu ∙ sym mv))) | inr a ↦ absurd (clash v u j i mv mu (a (sym o) (mv ∙ sym mu))) ]
   ]
     where
-      only : (v : Version) → In v m.versions → v.maker ≡ k → (q : ℕ) → AbortIn v.assumes q → ⊥
-      only v i mv q a =
-          let same : q ≡ v.maker = waits_none_assumes_itself m.holdings v.maker v.assumes (x.version_chained v i) (ap (waits m.holdings) mv ∙ b.free) q (inr a) in
-          x.version_sound v i v.maker (x.maker_commits v i) (subst (AbortIn v.assumes) same a)
-
       clash : (u v : Version) → In u m.versions → In v m.versions → u.maker ≡ k → v.maker ≡ k → Conflict u.assumes v.assumes → ⊥
-      clash u v i j mu mv c = elim c.1 [ inl y ↦ only v j mv _ y.1 | inr y ↦ only u i mu _ y.0 ]
+      clash u v i j mu mv c = elim c.1 [ inl y ↦ aborts_none m x k b.free v j mv _ y.1 | inr y ↦ aborts_none m x k b.free u i mu _ y.0 ]
 
   -- a turned object gets the value of any version of it by k
   written_is : (o : ℕ) (v : Version) → In v m.versions → v.maker ≡ k → v.object ≡ o → HasTurned m.holdings k o → o < length m.values → get_or new_values o 0 ≡ v.value
@@ -189,7 +184,7 @@ module _ (r : Rule) (m : Model) (s : Plain) (k : ℕ) (b : Commits m k) (sh : We
     long = refl;
     meets = λ h i j. elim (f.met e b.some.1 h i j) [
       | inl g ↦ sym g.value
-      | inr g ↦ absurd (waits_none_assumes_none m.holdings e.job e.assumes (x.execution_chained e b.some.1) (ap (waits m.holdings) b.some.2 ∙ b.free) _ (inl (g.within.on_commits _ (x.maker_commits g.version g.there))))
+      | inr g ↦ absurd (assumes_none m x k b.free e b.some.1 b.some.2 _ (inl (g.within.on_commits _ (x.maker_commits g.version g.there))))
     ];
   }
 
@@ -201,9 +196,9 @@ module _ (r : Rule) (m : Model) (s : Plain) (k : ℕ) (b : Commits m k) (sh : We
   unfolding Test
   same_values =
       ext_get_or 0 new_values (play r (fresh m.values) (calls_of s k)).values (length_written k m.versions m.holdings m.values ∙ sym (length_play r (fresh m.values) (calls_of s k)))
-      (λ o l. go o (omega (arith, l, length_written k m.versions m.holdings m.values)) (any (Test o) m.holdings) refl)
+      (λ o l. go o (omega (arith, l, length_written k m.versions m.holdings m.values)) (list_any (Test o) m.holdings) refl)
     where
-      go : (o : ℕ) → o < length m.values → (c : Bool) → any (Test o) m.holdings ≡ c → get_or new_values o 0 ≡ get_or (play r (fresh m.values) (calls_of s k)).values o 0
+      go : (o : ℕ) → o < length m.values → (c : Bool) → list_any (Test o) m.holdings ≡ c → get_or new_values o 0 ≡ get_or (play r (fresh m.values) (calls_of s k)).values o 0
       go o l true a =
           let y = any_in (Test o) m.holdings a in
           let z = and_parts _ _ y.2 in
@@ -222,7 +217,7 @@ module _ (r : Rule) (m : Model) (s : Plain) (k : ℕ) (b : Commits m k) (sh : We
       → MetStore (rest k m.holdings) new_values (settled_execution k e) h.object ⊎ MetVersion (rest k m.holdings) (settle Committed k new_values m).versions (settled_execution k e) h.object
   met_commit e d t h i j (inl g) = inl (record {
     value = met_same m Committed k new_values e h.object d t ∙ g.value ∙ sym (written_other k h.object m.versions m.holdings m.values (λ y a p q u.
-        elim (before_either m.holdings h.object k e.job h (λ z. d (sym z)) (record { holding = y; there = a; job = p; object = q; turned = u }) i j refl) [
+        elim (before_either m.holdings h.object k e.job h (λ z. d (sym z)) (record { holding = y; there = a; job = p; object = q; turns = u }) i j refl) [
           | inl c ↦ both_ways _ (not-true _ t) (g.before k c)
           | inr c ↦ waits_none _ c
         ]));
@@ -234,11 +229,11 @@ module _ (r : Rule) (m : Model) (s : Plain) (k : ℕ) (b : Commits m k) (sh : We
         let mk = before_maker m.holdings h.object _ _ g.maker in
         inl (record {
           value = met_same m Committed k new_values e h.object d t ∙ g.value ∙ sym (written_is h.object g.version g.there z g.object
-              (mk.holding, mk.there, mk.job ∙ z, mk.object, mk.turned) (sh.held_by h i).1);
+              (mk.holding, mk.there, mk.job ∙ z, mk.object, mk.turns) (sh.held_by h i).1);
           before = λ q c.
               let c' = before_rest k m.holdings h.object q _ c in
               let mq = before_maker m.holdings h.object q _ c'.0 in
-              elim (before_either m.holdings h.object k q mq.holding (λ y. c'.1 (sym y)) (record { holding = mk.holding; there = mk.there; job = mk.job ∙ z; object = mk.object; turned = mk.turned }) mq.there mq.job mq.object) [
+              elim (before_either m.holdings h.object k q mq.holding (λ y. c'.1 (sym y)) (record { holding = mk.holding; there = mk.there; job = mk.job ∙ z; object = mk.object; turns = mk.turns }) mq.there mq.job mq.object) [
                 | inl l ↦ without_one_in _ k q (g.between q (subst (λ y. Before m.holdings h.object y q) (sym z) l) c'.0) c'.1
                 | inr l ↦ waits_none _ l
               ];
@@ -248,6 +243,6 @@ module _ (r : Rule) (m : Model) (s : Plain) (k : ℕ) (b : Commits m k) (sh : We
   pub faithful_commit : Faithful r (next r m (Commit k)) (plain_one r s (Commit k))
   unfolding next
   faithful_commit =
-      subst (λ vs. Faithful r (settle Committed k new_values m) (record { values = vs; pending = keep (λ c. not (is_at k c)) s.pending }))
+      subst (λ vs. Faithful r (settle Committed k new_values m) (record { values = vs; pending = filter (λ c. not (is_at k c)) s.pending }))
       (same_values ∙ ap (λ vs. (play r (fresh vs) (calls_of s k)).values) f.values)
       (faithful_settle r m s Committed k new_values sh x f b.runs (length_written k m.versions m.holdings m.values) (λ e i d t h ih jh. met_commit e d t h ih jh (f.met e i h ih jh)))

@@ -1,14 +1,15 @@
 -- An image keeps the book with the plain run: each new version has the value that the job's calls now give.
 use Rattle.std.proofs.Common.{◌≡◌, ℕ, ◌<◌, true, ◌⊎◌, List, [], ◌∷◌, ◌++◌, map, length, get_or, sym, refl, ap, ◌∙◌, subst₂, inl, inr, arith, get_or-set_other, get_or-set_same}
+use Rattle.std.specs.Prelude.{filter}
 use Rattle.std.proofs.lemmas.Bool.{cases_eq, eq-eqb, ne_eqb, and_from, and_left, and_right}
 use Rattle.protocol.specs.declared.holdings.Holding.{Holding}
 use Rattle.protocol.specs.declared.assumptions.Execution.{Execution}
 use Rattle.protocol.specs.declared.assumptions.Version.{Version}
 use Rattle.terms.specs.declared.calls.Call.{Call}
 use Rattle.terms.specs.declared.calls.Call.TheVariants.{Image}
-use Rattle.protocol.specs.Holdings.{holds, turned, opened, turn, turn_state, position}
+use Rattle.protocol.specs.Holdings.{holds, turned, turn, turn_state, position}
 use Rattle.protocol.specs.Image.{version_by}
-use Rattle.protocol.specs.Lists.{keep, In}
+use Rattle.protocol.specs.Lists.{In}
 use Rattle.protocol.specs.Model.{Model, executions_of, names, job_at, kind_of, argument_of}
 use Rattle.protocol.specs.Past.{place_of, is_at}
 use Rattle.protocol.specs.PlainRun.{play_one, play, fresh, Plain, plain_one}
@@ -16,14 +17,14 @@ use Rattle.protocol.specs.Step.{next}
 use Rattle.terms.specs.Rule.{Rule}
 use Rattle.protocol.proofs.Running.{Runs}
 use Rattle.protocol.proofs.Membership.{join_cases, in_single}
-use Rattle.protocol.proofs.HoldingStates.{same_state, opened_turned, turned_turn, open_turns}
-use Rattle.protocol.proofs.Lists.{keep_in, over_push, append_left, append_right, in_map, map_in, over_map, behind_two}
+use Rattle.protocol.proofs.HoldingStates.{same_state, turned_turn, open_turns}
+use Rattle.protocol.proofs.Lists.{filter_in, over_push, append_left, append_right, in_map, map_in, over_map}
 use Rattle.protocol.proofs.Positions.{position_turn}
 use Rattle.protocol.proofs.Playing.{length_play}
 use Rattle.protocol.proofs.Accepted.{Images}
 use Rattle.protocol.proofs.Before.{Before, before_turn, turn_before}
-use Rattle.protocol.proofs.WellFormed.{WellFormed}
-use Rattle.protocol.proofs.Faithful.{Agrees, MetStore, MetVersion, Made, HasTurned, calls_of, Faithful, push_own, push_other}
+use Rattle.protocol.proofs.WellFormed.{WellFormed, not_both}
+use Rattle.protocol.proofs.Faithful.{Agrees, MetStore, MetVersion, Made, HasTurned, calls_of, Faithful, push_own, push_other, push_keeps}
 
 module _ (r : Rule) (m : Model) (s : Plain) (p o : ℕ) (b : Images m p o) (sh : WellFormed m) (f : Faithful r m s) where
   abbrev hs : List Holding
@@ -45,14 +46,7 @@ module _ (r : Rule) (m : Model) (s : Plain) (p o : ℕ) (b : Images m p o) (sh :
   vs' = m.versions ++ map made_from (executions_of p m)
 
   not_yet : HasTurned hs p o → ⊥
-  not_yet t =
-      let h = b.opens in
-      let job : t.0.job ≡ h.0.job = t.2 ∙ sym h.2 in
-      let object : t.0.object ≡ h.0.object = t.3 ∙ sym h.3 in
-      elim (behind_two hs t.0 h.0 t.1 h.1) [
-        | inl same ↦ opened_turned _ t.4 (ap (λ g. opened g.state) same ∙ h.4)
-        | inr l ↦ elim l [ inl q ↦ sh.once _ _ q job object | inr q ↦ sh.once _ _ q (sym job) (sym object) ]
-      ]
+  not_yet t = not_both m p o sh b t.0 t.1 t.2 t.3 t.4
 
   turns_new : (q x : ℕ) → HasTurned hs q x → HasTurned hs' q x
   turns_new q x t = (turn p o t.0, map_in (turn p o) hs t.0 t.1, t.2, t.3, turned_turn _ _ t.4)
@@ -83,12 +77,12 @@ module _ (r : Rule) (m : Model) (s : Plain) (p o : ℕ) (b : Images m p o) (sh :
   -- ---- the new versions
   module _ (e : Execution) (ie : In e m.executions) (je : p ≡ e.job) where
     there_new : In (made_from e) vs'
-    there_new = append_right m.versions _ _ (map_in made_from (executions_of p m) e (keep_in (names p) m.executions e ie (eq-eqb _ _ (sym je))))
+    there_new = append_right m.versions _ _ (map_in made_from (executions_of p m) e (filter_in (names p) m.executions e ie (eq-eqb _ _ (sym je))))
 
-    push : (ys : List ℕ) → play r (fresh ys) (keep (is_at e.job) (s.pending ++ image ∷ [])) ≡ play_one r (play r (fresh ys) (calls_of s e.job)) image
+    push : (ys : List ℕ) → play r (fresh ys) (filter (is_at e.job) (s.pending ++ image ∷ [])) ≡ play_one r (play r (fresh ys) (calls_of s e.job)) image
     push ys = push_own r s.pending image e.job je ys
 
-    value_new : (ys : List ℕ) → Agrees hs' n e ys → get_or (play r (fresh ys) (keep (is_at e.job) (s.pending ++ image ∷ []))).values o 0 ≡ (made_from e).value
+    value_new : (ys : List ℕ) → Agrees hs' n e ys → get_or (play r (fresh ys) (filter (is_at e.job) (s.pending ++ image ∷ []))).values o 0 ≡ (made_from e).value
     value_new ys g =
         let k = f.kind e.job (sh.worked_by e ie).0 ys in
         let K : (play r (fresh ys) (calls_of s e.job)).kind ≡ kind_of (job_at m p) = k.0 ∙ ap (λ q. kind_of (job_at m q)) (sym je) in
@@ -101,7 +95,7 @@ module _ (r : Rule) (m : Model) (s : Plain) (p o : ℕ) (b : Images m p o) (sh :
         let L : o < length (play r (fresh ys) (calls_of s e.job)).values = omega (arith, length_play r (fresh ys) (calls_of s e.job), g.long, b.object) in
         ap (λ t. get_or t.values o 0) (push ys) ∙ get_or-set_same (play r (fresh ys) (calls_of s e.job)).values o _ 0 L ∙ (λ i. r.give (K i) (A i) (W i) o (V i))
 
-    made_own : (x : ℕ) → HasTurned hs' e.job x → Made r (keep (is_at e.job) (s.pending ++ image ∷ [])) hs' vs' n e x
+    made_own : (x : ℕ) → HasTurned hs' e.job x → Made r (filter (is_at e.job) (s.pending ++ image ∷ [])) hs' vs' n e x
     made_own x t = elim (cases_eq x o) [
       | inl d ↦ record {
         version = made_from e;
@@ -110,7 +104,7 @@ module _ (r : Rule) (m : Model) (s : Plain) (p o : ℕ) (b : Images m p o) (sh :
         maker = refl;
         on_commits = λ k c. elim (join_cases _ _ k c) [ inl i ↦ inl i | inr i ↦ inr (sym (in_single _ _ i)) ];
         on_aborts = λ k c. c;
-        value = λ ys g. ap (λ z. get_or (play r (fresh ys) (keep (is_at e.job) (s.pending ++ image ∷ []))).values z 0) d ∙ value_new ys g;
+        value = λ ys g. ap (λ z. get_or (play r (fresh ys) (filter (is_at e.job) (s.pending ++ image ∷ []))).values z 0) d ∙ value_new ys g;
       }
       | inr d ↦ elim (turns_old e.job x t) [
         | inr z ↦ absurd (d z.1)
@@ -126,7 +120,7 @@ module _ (r : Rule) (m : Model) (s : Plain) (p o : ℕ) (b : Images m p o) (sh :
       ]
     ]
 
-  made_other : (e : Execution) → In e m.executions → (p ≡ e.job → ⊥) → (x : ℕ) → HasTurned hs' e.job x → Made r (keep (is_at e.job) (s.pending ++ image ∷ [])) hs' vs' n e x
+  made_other : (e : Execution) → In e m.executions → (p ≡ e.job → ⊥) → (x : ℕ) → HasTurned hs' e.job x → Made r (filter (is_at e.job) (s.pending ++ image ∷ [])) hs' vs' n e x
   made_other e ie d x t = elim (turns_old e.job x t) [
     | inr z ↦ absurd (d (sym z.0))
     | inl u ↦ let w = f.made e ie x u in record {
@@ -157,19 +151,13 @@ module _ (r : Rule) (m : Model) (s : Plain) (p o : ℕ) (b : Images m p o) (sh :
   faithful_image = record {
     values = f.values;
     runs = over_push (λ c. Runs m (place_of c)) s.pending image f.runs b.runs;
-    kind = λ q h ys. let w = f.kind q h ys in elim (cases_eq p q) [
-      | inl e ↦ (ap (λ t. t.kind) (push_own r s.pending image q e ys) ∙ w.0, ap (λ t. t.argument) (push_own r s.pending image q e ys) ∙ w.1)
-      | inr d ↦ (ap (λ cs. (play r (fresh ys) cs).kind) (push_other r s.pending image q d) ∙ w.0, ap (λ cs. (play r (fresh ys) cs).argument) (push_other r s.pending image q d) ∙ w.1)
-    ];
+    kind = λ q h ys. let w = f.kind q h ys in (push_keeps r s.pending image q (λ t. t.kind) (λ t. refl) ys ∙ w.0, push_keeps r s.pending image q (λ t. t.argument) (λ t. refl) ys ∙ w.1);
     others = λ q x t ys. let w = f.others q x (λ u. t (turns_new q x u)) ys in elim (cases_eq p q) [
       | inl e ↦ ap (λ t. get_or t.values x 0) (push_own r s.pending image q e ys)
           ∙ get_or-set_other (play r (fresh ys) (calls_of s q)).values o x _ 0 (λ d. t (subst₂ (λ a z. HasTurned hs' a z) e (sym d) here)) ∙ w
       | inr d ↦ ap (λ cs. get_or (play r (fresh ys) cs).values x 0) (push_other r s.pending image q d) ∙ w
     ];
-    work = λ e i ys g. let w = f.work e i ys (agrees_old e ys g) in elim (cases_eq p e.job) [
-      | inl d ↦ ap (λ t. t.work) (push_own r s.pending image e.job d ys) ∙ w
-      | inr d ↦ ap (λ cs. (play r (fresh ys) cs).work) (push_other r s.pending image e.job d) ∙ w
-    ];
+    work = λ e i ys g. push_keeps r s.pending image e.job (λ t. t.work) (λ t. refl) ys ∙ f.work e i ys (agrees_old e ys g);
     made = λ e i x t. elim (cases_eq p e.job) [ inl d ↦ made_own e i d x t | inr d ↦ made_other e i d x t ];
     met = λ e i. over_map (λ h. h.job ≡ e.job → MetStore hs' m.values e h.object ⊎ MetVersion hs' vs' e h.object) (turn p o) hs (λ h j d. met_turn e h.object (f.met e i h j d));
   }

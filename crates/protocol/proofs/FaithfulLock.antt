@@ -1,18 +1,19 @@
 -- A lock keeps the book with the plain run: each pair met what it was offered, and its working value is one take further.
 use Rattle.std.proofs.Common.{◌≡◌, ℕ, true, not, ◌⊎◌, List, [], ◌∷◌, ◌++◌, length, get_or, set, sym, refl, ap, ◌∙◌, subst, inl, inr, arith, get_or-set_other, get_or-set_same}
-use Rattle.std.proofs.lemmas.Bool.{false≢true, cases_eq, eqb-false, not-true}
+use Rattle.std.specs.Prelude.{filter}
+use Rattle.std.proofs.lemmas.Bool.{eqb-false, not-true}
 use Rattle.terms.specs.declared.modes.Mode.{Mode}
-use Rattle.terms.specs.declared.modes.Mode.TheVariants.{Read, Write}
 use Rattle.protocol.specs.Assumptions.{commits_of, aborts_of}
 use Rattle.protocol.specs.declared.holdings.Holding.{Holding}
 use Rattle.protocol.specs.declared.assumptions.Execution.{Execution}
 use Rattle.terms.specs.declared.calls.Call.{Call}
 use Rattle.terms.specs.declared.calls.Call.TheVariants.{Lock}
 use Rattle.protocol.specs.Holdings.{held_by, begins, turned, position}
-use Rattle.protocol.specs.Lists.{keep, In}
+use Rattle.protocol.specs.Lists.{In}
 use Rattle.protocol.specs.Model.{Model, holding_count, names, job_at, kind_of, argument_of}
-use Rattle.protocol.specs.Pairing.{offers, pairing, kept_pairs}
+use Rattle.protocol.specs.Pairing.{offers, pairing}
 use Rattle.protocol.specs.Past.{place_of, is_at}
+use Rattle.protocol.specs.PairingLaws.{Makes}
 use Rattle.protocol.specs.Places.{has}
 use Rattle.protocol.specs.PlainRun.{play_one, play, fresh, Plain, plain_one}
 use Rattle.protocol.specs.Step.{next}
@@ -20,17 +21,16 @@ use Rattle.terms.specs.Rule.{Rule}
 use Rattle.protocol.specs.declared.assumptions.Offer.{Offer}
 use Rattle.protocol.proofs.Running.{Runs}
 use Rattle.protocol.proofs.Membership.{join_left, join_right}
-use Rattle.protocol.proofs.Lists.{over_keep, over_append, over_push, append_left, append_right, append_cases}
+use Rattle.protocol.proofs.Lists.{over_push, append_left, append_right, append_cases}
 use Rattle.protocol.proofs.Positions.{position_push, position_new, position_below}
 use Rattle.protocol.proofs.Accepted.{Locks}
-use Rattle.protocol.proofs.Makers.{Maker, why_makers}
+use Rattle.protocol.proofs.Makers.{why_makers}
 use Rattle.protocol.proofs.Before.{Before, before_maker, before_push, before_more, before_new, before_later}
-use Rattle.protocol.proofs.WellFormed.{WellFormed, over_kept_pairs, over_offers}
-use Rattle.protocol.proofs.Faithful.{met_at, Agrees, MetStore, MetVersion, Made, HasTurned, calls_of, Faithful, push_own, push_other}
+use Rattle.protocol.proofs.WellFormed.{WellFormed, maker_of, over_offers, over_locked}
+use Rattle.protocol.proofs.Faithful.{met_at, Agrees, MetStore, MetVersion, Made, HasTurned, calls_of, Faithful, push_own, push_other, push_keeps}
 
 not_turned : (mode : Mode) → turned (begins mode) ≡ true → ⊥
-not_turned Read e = false≢true e
-not_turned Write e = false≢true e
+not_turned mode e = grind (arith, e)
 
 module _ (r : Rule) (m : Model) (s : Plain) (p o : ℕ) (mode : Mode) (b : Locks m p o mode) (sh : WellFormed m) (f : Faithful r m s) where
   abbrev h' : Holding
@@ -66,11 +66,11 @@ module _ (r : Rule) (m : Model) (s : Plain) (p o : ℕ) (mode : Mode) (b : Locks
   agrees_old e ys g = record { long = g.long; meets = λ h i q. g.meets h (append_left hs _ h i) q ∙ ap (λ x. get_or e.met x 0) (position_old e.job h.object h i q refl) }
 
   old_holding : (e : Execution) → (e.job ≡ p → ⊥) → (h : Holding) → In h hs' → h.job ≡ e.job → In h hs
-  old_holding e d h i q = elim (append_cases hs (h' ∷ []) h i) [ inl j ↦ j | inr j ↦ elim j [ inl z ↦ absurd (d (sym q ∙ sym (ap (λ g. g.job) z))) | inr z ↦ absurd z ] ]
+  old_holding e d h i q = grind (arith, d, q, append_cases hs (h' ∷ []) h i)
 
   -- no maker has come before a job other than p
   before_old : (x q j : ℕ) → (j ≡ p → ⊥) → Before hs' x q j → Before hs x q j
-  before_old x q j d c = elim (before_push hs h' x q j c) [ inl l ↦ l | inr l ↦ absurd (d (sym l.0)) ]
+  before_old x q j d c = grind (arith, d, before_push hs h' x q j c)
 
   met_old : (e : Execution) (h : Holding) → (e.job ≡ p → ⊥) → In h hs → h.job ≡ e.job → MetStore hs m.values e h.object ⊎ MetVersion hs m.versions e h.object
       → MetStore hs' m.values e h.object ⊎ MetVersion hs' m.versions e h.object
@@ -105,21 +105,21 @@ module _ (r : Rule) (m : Model) (s : Plain) (p o : ℕ) (mode : Mode) (b : Locks
     old_met : (h : Holding) → In h hs → h.job ≡ e.job → met_at hs' e' h.object ≡ met_at hs e h.object
     old_met h i j =
         let inside = position_below e.job h.object hs h i j refl in
-        let same = ap (λ q. length (keep (held_by q) hs)) je in
+        let same = ap (λ q. length (filter (held_by q) hs)) je in
         ap (λ x. get_or (set e.met (holding_count m p) y.value) x 0) (position_old e.job h.object h i j refl)
         ∙ get_or-set_other e.met (holding_count m p) (position e.job h.object hs) y.value 0 (λ q. omega arith)
 
     agrees_pair : (ys : List ℕ) → Agrees hs' n e' ys → Agrees hs n e ys
     agrees_pair ys g = record { long = g.long; meets = λ h i q. g.meets h (append_left hs _ h i) q ∙ old_met h i q }
 
-    push : (ys : List ℕ) → play r (fresh ys) (keep (is_at e.job) (s.pending ++ lock ∷ [])) ≡ play_one r (play r (fresh ys) (calls_of s e.job)) lock
+    push : (ys : List ℕ) → play r (fresh ys) (filter (is_at e.job) (s.pending ++ lock ∷ [])) ≡ play_one r (play r (fresh ys) (calls_of s e.job)) lock
     push ys = push_own r s.pending lock e.job (sym je) ys
 
     -- p has not turned o
     not_yet : HasTurned hs e.job o → ⊥
     not_yet t = b.new t.0 t.1 (t.2 ∙ je) t.3
 
-    work_new : (ys : List ℕ) → Agrees hs' n e' ys → (play r (fresh ys) (keep (is_at e.job) (s.pending ++ lock ∷ []))).work ≡ e'.work
+    work_new : (ys : List ℕ) → Agrees hs' n e' ys → (play r (fresh ys) (filter (is_at e.job) (s.pending ++ lock ∷ []))).work ≡ e'.work
     work_new ys g =
         let k = f.kind e.job (sh.worked_by e ie).0 ys in
         let K : (play r (fresh ys) (calls_of s e.job)).kind ≡ kind_of (job_at m p) = k.0 ∙ ap (λ q. kind_of (job_at m q)) je in
@@ -128,7 +128,7 @@ module _ (r : Rule) (m : Model) (s : Plain) (p o : ℕ) (mode : Mode) (b : Locks
         let V : get_or (play r (fresh ys) (calls_of s e.job)).values o 0 ≡ y.value = f.others e.job o not_yet ys ∙ g.meets h' (append_right hs _ h' (inl refl)) (sym je) ∙ new_met in
         ap (λ t. t.work) (push ys) ∙ (λ i. r.take (K i) (A i) (W i) o mode (V i))
 
-    made_new : (x : ℕ) → HasTurned hs' e.job x → Made r (keep (is_at e.job) (s.pending ++ lock ∷ [])) hs' m.versions n e' x
+    made_new : (x : ℕ) → HasTurned hs' e.job x → Made r (filter (is_at e.job) (s.pending ++ lock ∷ [])) hs' m.versions n e' x
     made_new x t =
         let w = f.made e ie x (turns_old _ x t) in
         record {
@@ -142,7 +142,7 @@ module _ (r : Rule) (m : Model) (s : Plain) (p o : ℕ) (mode : Mode) (b : Locks
         }
 
     before_pair : (x q : ℕ) (h : Holding) → In h hs → h.job ≡ e.job → h.object ≡ x → Before hs' x q e.job → Before hs x q e.job
-    before_pair x q h i j g c = elim (before_push hs h' x q e.job c) [ inl l ↦ l | inr l ↦ absurd (b.new h i (j ∙ je) (g ∙ sym l.1)) ]
+    before_pair x q h i j g c = grind (arith, before_push hs h' x q e.job c, b.new h i, j, je, g)
 
     -- what it met at the objects held before
     met_pair : (h : Holding) → In h hs → h.job ≡ e.job → MetStore hs m.values e h.object ⊎ MetVersion hs m.versions e h.object
@@ -174,7 +174,7 @@ module _ (r : Rule) (m : Model) (s : Plain) (p o : ℕ) (mode : Mode) (b : Locks
         object = d;
         within = record { on_commits = λ k c. join_right _ _ k (subst (λ (z : Offer). has (commits_of z.assumes) k ≡ true) same c); on_aborts = λ k c. join_right _ _ k (subst (λ (z : Offer). has (aborts_of z.assumes) k ≡ true) same (join_left _ _ k c)) };
         value = new_met e ie je y iy ∙ sym (ap (λ z. z.value) same);
-        maker = subst (λ q. Before hs' o v.maker q) (sym je) (before_new hs h' o v.maker refl (let w = sh.made_by v i in record { holding = w.0; there = w.1; job = w.2; object = w.3 ∙ d; turned = w.4 }));
+        maker = subst (λ q. Before hs' o v.maker q) (sym je) (before_new hs h' o v.maker refl (maker_of m sh o v i d));
         between = λ q c l. join_right _ _ q (subst (λ (z : Offer). has (aborts_of z.assumes) q ≡ true) same (join_right _ _ q
             (elim (before_push hs h' o v.maker q c) [
               | inl c' ↦ before_later hs o v.maker q c' (maker_before q l) sh.once
@@ -183,7 +183,7 @@ module _ (r : Rule) (m : Model) (s : Plain) (p o : ℕ) (mode : Mode) (b : Locks
       }))
       y iy refl
     where
-      maker_before : (q : ℕ) → Before hs' o q e.job → Maker hs o q
+      maker_before : (q : ℕ) → Before hs' o q e.job → Makes hs o q
       maker_before q c = elim (before_push hs h' o q e.job c) [ inl l ↦ before_maker hs o q _ l | inr l ↦ l.2 ]
 
   pub faithful_lock : Faithful r (next r m (Lock p o mode)) (plain_one r s (Lock p o mode))
@@ -191,19 +191,10 @@ module _ (r : Rule) (m : Model) (s : Plain) (p o : ℕ) (mode : Mode) (b : Locks
   faithful_lock = record {
     values = f.values;
     runs = over_push (λ c. Runs m (place_of c)) s.pending lock f.runs b.runs;
-    kind = λ q h ys. let w = f.kind q h ys in elim (cases_eq p q) [
-      | inl e ↦ (ap (λ t. t.kind) (push_own r s.pending lock q e ys) ∙ w.0, ap (λ t. t.argument) (push_own r s.pending lock q e ys) ∙ w.1)
-      | inr d ↦ (ap (λ cs. (play r (fresh ys) cs).kind) (push_other r s.pending lock q d) ∙ w.0, ap (λ cs. (play r (fresh ys) cs).argument) (push_other r s.pending lock q d) ∙ w.1)
-    ];
-    others = λ q x t ys. let w = f.others q x (λ u. t (turns_new q x u)) ys in elim (cases_eq p q) [
-      | inl e ↦ ap (λ t. get_or t.values x 0) (push_own r s.pending lock q e ys) ∙ w
-      | inr d ↦ ap (λ cs. get_or (play r (fresh ys) cs).values x 0) (push_other r s.pending lock q d) ∙ w
-    ];
-    work = over_append (λ e. (ys : List ℕ) → Agrees hs' n e ys → (play r (fresh ys) (keep (is_at e.job) (s.pending ++ lock ∷ []))).work ≡ e.work) (keep (λ e. not (names p e)) m.executions) (kept_pairs r m p o mode)
-        (over_keep _ _ m.executions (λ e i t ys g. ap (λ cs. (play r (fresh ys) cs).work) (push_other r s.pending lock e.job (λ d. other e t (sym d))) ∙ f.work e i ys (agrees_old e ys g)))
-        (over_kept_pairs _ r m p o mode (λ e i j y l t. work_new e i j y l));
-    made = over_append (λ e. (x : ℕ) → HasTurned hs' e.job x → Made r (keep (is_at e.job) (s.pending ++ lock ∷ [])) hs' m.versions n e x) (keep (λ e. not (names p e)) m.executions) (kept_pairs r m p o mode)
-        (over_keep _ _ m.executions (λ e i t x u.
+    kind = λ q h ys. let w = f.kind q h ys in (push_keeps r s.pending lock q (λ t. t.kind) (λ t. refl) ys ∙ w.0, push_keeps r s.pending lock q (λ t. t.argument) (λ t. refl) ys ∙ w.1);
+    others = λ q x t ys. push_keeps r s.pending lock q (λ t. get_or t.values x 0) (λ t. refl) ys ∙ f.others q x (λ u. t (turns_new q x u)) ys;
+    work = over_locked (λ e. (ys : List ℕ) → Agrees hs' n e ys → (play r (fresh ys) (filter (is_at e.job) (s.pending ++ lock ∷ []))).work ≡ e.work) r m p o mode (λ e i t ys g. ap (λ cs. (play r (fresh ys) cs).work) (push_other r s.pending lock e.job (λ d. other e t (sym d))) ∙ f.work e i ys (agrees_old e ys g)) (λ e i j y l t. work_new e i j y l);
+    made = over_locked (λ e. (x : ℕ) → HasTurned hs' e.job x → Made r (filter (is_at e.job) (s.pending ++ lock ∷ [])) hs' m.versions n e x) r m p o mode (λ e i t x u.
         let w = f.made e i x (turns_old _ x u) in
         record {
           version = w.version;
@@ -213,12 +204,9 @@ module _ (r : Rule) (m : Model) (s : Plain) (p o : ℕ) (mode : Mode) (b : Locks
           on_commits = w.on_commits;
           on_aborts = w.on_aborts;
           value = λ ys g. ap (λ cs. get_or (play r (fresh ys) cs).values x 0) (push_other r s.pending lock e.job (λ d. other e t (sym d))) ∙ w.value ys (agrees_old e ys g);
-        }))
-        (over_kept_pairs _ r m p o mode (λ e i j y l t. made_new e i j y l));
-    met = over_append (λ e. (h : Holding) → In h hs' → h.job ≡ e.job → MetStore hs' m.values e h.object ⊎ MetVersion hs' m.versions e h.object) (keep (λ e. not (names p e)) m.executions) (kept_pairs r m p o mode)
-        (over_keep _ _ m.executions (λ e i t h k d. let old = old_holding e (other e t) h k d in met_old e h (other e t) old d (f.met e i h old d)))
-        (over_kept_pairs _ r m p o mode (λ e i j y l t h k d. over_push (λ h. h.job ≡ e.job → MetStore hs' m.values (e' e i j y l) h.object ⊎ MetVersion hs' m.versions (e' e i j y l) h.object) hs h'
-        (λ h k d. met_pair e i j y l h k d (f.met e i h k d)) (λ d. met_here e i j y l) h k d));
+        }) (λ e i j y l t. made_new e i j y l);
+    met = over_locked (λ e. (h : Holding) → In h hs' → h.job ≡ e.job → MetStore hs' m.values e h.object ⊎ MetVersion hs' m.versions e h.object) r m p o mode (λ e i t h k d. let old = old_holding e (other e t) h k d in met_old e h (other e t) old d (f.met e i h old d)) (λ e i j y l t h k d. over_push (λ h. h.job ≡ e.job → MetStore hs' m.values (e' e i j y l) h.object ⊎ MetVersion hs' m.versions (e' e i j y l) h.object) hs h'
+        (λ h k d. met_pair e i j y l h k d (f.met e i h k d)) (λ d. met_here e i j y l) h k d);
   }
     where
       other : (e : Execution) → not (names p e) ≡ true → e.job ≡ p → ⊥

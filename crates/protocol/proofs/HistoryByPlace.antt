@@ -1,21 +1,28 @@
 -- The history names jobs by the number of their begin, the book by place: both say the same of the running jobs.
 -- Words: `History` of specs/History; `rel`, `gone` as `relied`, `gone` in Covered.
-use Rattle.std.proofs.Common.{◌≡◌, ℕ, ◌+◌, ◌<◌, ◌≤◌, Bool, true, false, cond, not, ◌&&◌, eqb, ◌⊎◌, List, [], ◌∷◌, ◌++◌, length, set, Some, None, Option, sym, refl, ap, ◌∙◌, subst, subst₂, inl, inr, arith, length-append, get_or-set_other}
-use Rattle.std.proofs.lemmas.Bool.{both_ways, cases_eq, cases_Bool, eqb-true, eq-eqb, ne_eqb, and_parts, and_from, cond-true, cond-false}
+use Rattle.std.proofs.Common.{◌≡◌, ℕ, ◌+◌, ◌<◌, ◌≤◌, Bool, true, false, cond, not, ◌&&◌, eqb, ◌⊎◌, List, [], ◌∷◌, ◌++◌, length, set, Some, None, Option, sym, refl, ap, ◌∙◌, subst, inl, inr, arith}
+use Rattle.std.specs.Prelude.{flat_map, filter}
+use Rattle.std.proofs.lemmas.List.Folds.{list_any-append}
+use Rattle.std.proofs.lemmas.Grind.{common_steps}
+use Rattle.std.proofs.lemmas.List.Elements.{filter-append}
+use Rattle.std.proofs.lemmas.Bool.{or_left}
+use Rattle.std.proofs.lemmas.Grind.{common_steps}
+use Rattle.std.proofs.lemmas.List.Elements.{filter-append}
+use Rattle.std.proofs.lemmas.Bool.{both_ways, cases_eq, eqb-true, eq-eqb, ne_eqb, and_parts, and_from, cond-true, cond-false}
 use Rattle.terms.specs.declared.modes.Mode.{Mode}
 use Rattle.protocol.specs.declared.holdings.Holding.{Holding}
 use Rattle.protocol.specs.declared.jobs.Job.{Job}
 use Rattle.terms.specs.declared.calls.Call.TheVariants.{Begin, Lock}
 use Rattle.protocol.specs.History.{Rely, Ended, History, is_aborted, relies_on, has_ended, aborts, gains, ends, history_one}
 use Rattle.protocol.specs.Holdings.{makes, makers, spread}
-use Rattle.protocol.specs.Lists.{keep, each, In, is_some}
+use Rattle.protocol.specs.Lists.{In}
 use Rattle.protocol.specs.Model.{Model}
 use Rattle.protocol.specs.Places.{has, single, join, without}
 use Rattle.protocol.specs.declared.jobs.Ending.{Ending}
-use Rattle.protocol.proofs.Running.{Runs, RunsIn, ended_runs}
-use Rattle.protocol.proofs.Filters.{keep_more, keep_push_yes, keep_push_no}
+use Rattle.protocol.proofs.Running.{Runs, RunsIn, ended_runs, ran_before}
+use Rattle.protocol.proofs.Filters.{filter_more}
 use Rattle.protocol.proofs.Membership.{join_cases, in_without_one, none_in}
-use Rattle.protocol.proofs.Lists.{keep_in, any_in, in_any, append_left, append_right, append_cases, map_in, each_in}
+use Rattle.protocol.proofs.Lists.{filter_in, any_in, in_any, append_right, map_in, each_in}
 use Rattle.protocol.proofs.Reach.{spread_why}
 use Rattle.protocol.proofs.Makers.{makers_why}
 use Rattle.protocol.proofs.WellFormed.{WellFormed, runs_small}
@@ -43,7 +50,7 @@ all_ended m h rel gone t y p run f k i = both_ways _ (t.alive k (y.running p run
 -- ---- relying in the history
 more_relied : (rs qs : List Rely) (i x : ℕ) → relies_on rs i x ≡ true → relies_on (rs ++ qs) i x ≡ true
 unfolding relies_on
-more_relied rs qs i x e = let a = any_in (λ r. eqb r.job i && eqb r.on x) rs e in in_any _ (rs ++ qs) a.0 (append_left rs qs a.0 a.1) a.2
+more_relied rs qs i x e = list_any-append (λ (r : Rely). eqb r.job i && eqb r.on x) rs qs ∙ or_left _ _ e
 
 relied_in : (rs : List Rely) (r : Rely) → In r rs → relies_on rs r.job r.on ≡ true
 unfolding relies_on
@@ -55,36 +62,21 @@ pub by_place_begin : (m : Model) (h : History) (rel gone : ℕ → ℕ) (p : ℕ
 unfolding aborts
 by_place_begin m h rel gone p j k a idle y t = record {
   known = λ q x run i. elim (cases_eq q p) [
-    | inl e ↦ none_in x (subst (λ n. has n x ≡ true) (cond-true _ 0 (rel q) (eq-eqb q p e)) i)
+    | inl e ↦ none_in x (grind (arith, e, i))
     | inr n ↦
-        let old = subst (λ z. has z x ≡ true) (cond-false _ 0 (rel q) (ne_eqb q p n)) i in
+        let old : has (rel q) x ≡ true = grind (arith, n, i) in
         let other : x ≡ p → ⊥ = λ e. idle (subst (Runs m) e (y.running q (runs_old q n run) x old).0) in
-        subst₂ (λ u v. relies_on h.relied u v ≡ true) (sym (there q n)) (sym (there x other)) (t.known q x (runs_old q n run) old)
+        grind (arith, n, other, t.known q x (runs_old q n run) old)
   ];
-  alive = λ q run. elim (cases_eq q p) [
-    | inl e ↦ elim (cases_Bool (has_ended h.ended h.begun)) [ inl b ↦ absurd (omega (arith, t.past h.begun b)) | inr b ↦ ap (has_ended h.ended) (here q e) ∙ b ]
-    | inr n ↦ ap (has_ended h.ended) (there q n) ∙ t.alive q (runs_old q n run)
-  ];
-  apart = λ q x run run' e. elim (cases_eq q p) [
-    | inl d ↦ elim (cases_eq x p) [ inl d' ↦ d ∙ sym d' | inr n ↦ absurd (omega (arith, t.older x (runs_old x n run'), sym (here q d) ∙ e ∙ there x n)) ]
-    | inr n ↦ elim (cases_eq x p) [ inl d ↦ absurd (omega (arith, t.older q (runs_old q n run), sym (there q n) ∙ e ∙ here x d)) | inr n' ↦ t.apart q x (runs_old q n run) (runs_old x n' run') (sym (there q n) ∙ e ∙ there x n') ]
-  ];
-  older = λ q run. elim (cases_eq q p) [ inl e ↦ omega (arith, here q e) | inr n ↦ omega (arith, there q n, t.older q (runs_old q n run)) ];
+  alive = λ q run. elim (cases_eq q p) [ inl e ↦ grind (arith, e, t.past h.begun) | inr n ↦ grind (arith, n, t.alive q (runs_old q n run)) ];
+  apart = λ q x run run' e. grind (arith, e, t.older q, t.older x, t.apart q x, λ (n : q ≡ p → ⊥). runs_old q n run, λ (n : x ≡ p → ⊥). runs_old x n run');
+  older = λ q run. elim (cases_eq q p) [ inl e ↦ grind (arith, e) | inr n ↦ grind (arith, n, t.older q (runs_old q n run)) ];
   past = λ x e. omega (arith, t.past x e);
-  count = λ q run. elim (cases_eq q p) [
-    | inl e ↦ omega (arith, cond-true (eqb q p) 0 (gone q) (eq-eqb q p e))
-    | inr n ↦ omega (arith, cond-false (eqb q p) 0 (gone q) (ne_eqb q p n), t.count q (runs_old q n run), ap (λ i. aborts h i) (there q n))
-  ];
+  count = λ q run. elim (cases_eq q p) [ inl e ↦ grind (arith, e) | inr n ↦ grind (arith, n, t.count q (runs_old q n run)) ];
 }
   where
-    here : (q : ℕ) → q ≡ p → cond (eqb q p) h.begun (h.ids q) ≡ h.begun
-    here q e = cond-true _ h.begun (h.ids q) (eq-eqb q p e)
-
-    there : (q : ℕ) → (q ≡ p → ⊥) → cond (eqb q p) h.begun (h.ids q) ≡ h.ids q
-    there q n = cond-false _ h.begun (h.ids q) (ne_eqb q p n)
-
     runs_old : (q : ℕ) → (q ≡ p → ⊥) → RunsIn (set m.jobs p (Some j)) q → Runs m q
-    runs_old q n run = sym (ap is_some (get_or-set_other m.jobs p q (Some j) None n)) ∙ run
+    runs_old q n run = ran_before m.jobs p q (Some j) n run
 
 -- ---- a lock
 module _ (m : Model) (h : History) (rel gone : ℕ → ℕ) (p o : ℕ) (mode : Mode) (run_p : Runs m p) (sh : WellFormed m) (same : h.holdings ≡ m.holdings) (y : Covered m rel gone) (t : ByPlace m.jobs h rel gone) where
@@ -95,10 +87,10 @@ module _ (m : Model) (h : History) (rel gone : ℕ → ℕ) (p o : ℕ) (mode : 
   i = h.ids p
 
   abbrev relied' : List Rely
-  relied' = h.relied ++ each (gains h i) (keep (makes o) h.holdings)
+  relied' = h.relied ++ flat_map (gains h i) (filter (makes o) h.holdings)
 
   gained : (g : Holding) → In g m.holdings → makes o g ≡ true → (r : Rely) → In r (gains h i g) → relies_on relied' r.job r.on ≡ true
-  gained g j e r k = relied_in relied' r (append_right h.relied _ r (each_in (gains h i) (keep (makes o) h.holdings) g (keep_in (makes o) h.holdings g (subst (λ hs. In g hs) (sym same) j) e) r k))
+  gained g j e r k = relied_in relied' r (append_right h.relied _ r (each_in (gains h i) (filter (makes o) h.holdings) g (filter_in (makes o) h.holdings g (subst (λ hs. In g hs) (sym same) j) e) r k))
 
   known_own : (x : ℕ) → has (without (join (rel p) (spread rel 16 (makers o m.holdings))) (single p)) x ≡ true → relies_on relied' i (h.ids x) ≡ true
   unfolding relies_on
@@ -108,7 +100,7 @@ module _ (m : Model) (h : History) (rel gone : ℕ → ℕ) (p o : ℕ) (mode : 
         | inl d ↦ more_relied h.relied _ i (h.ids x) (t.known p x run_p d)
         | inr d ↦ elim (spread_why rel 16 (makers o m.holdings) x d) [
           | inl u ↦ let mk = makers_why m.holdings o x u in
-              ap (λ z. relies_on relied' i (h.ids z)) (sym mk.job) ∙ gained mk.holding mk.there (and_from _ _ (eq-eqb _ _ mk.object) mk.turned) (record { job = i; on = h.ids mk.holding.job }) (inl refl)
+              ap (λ z. relies_on relied' i (h.ids z)) (sym mk.job) ∙ gained mk.holding mk.there (and_from _ _ (eq-eqb _ _ mk.object) mk.turns) (record { job = i; on = h.ids mk.holding.job }) (inl refl)
           | inr u ↦
               let k = u.0 in
               let mk = makers_why m.holdings o k u.2 in
@@ -119,8 +111,8 @@ module _ (m : Model) (h : History) (rel gone : ℕ → ℕ) (p o : ℕ) (mode : 
               let on : a.0.on ≡ h.ids x = eqb-true _ _ b.1 in
               let alive : has_ended h.ended a.0.on ≡ false = ap (has_ended h.ended) on ∙ t.alive x run_x in
               let other : eqb a.0.on i ≡ false = ne_eqb _ _ (λ z. l.1 (t.apart x p run_x run_p (sym on ∙ z))) in
-              ap (λ z. relies_on relied' i z) (sym on) ∙ gained mk.holding mk.there (and_from _ _ (eq-eqb _ _ mk.object) mk.turned) (record { job = i; on = a.0.on })
-              (inr (map_in (λ r. record { job = i; on = r.on }) _ a.0 (keep_in _ h.relied a.0 a.1
+              ap (λ z. relies_on relied' i z) (sym on) ∙ gained mk.holding mk.there (and_from _ _ (eq-eqb _ _ mk.object) mk.turns) (record { job = i; on = a.0.on })
+              (inr (map_in (λ r. record { job = i; on = r.on }) _ a.0 (filter_in _ h.relied a.0 a.1
               (and_from _ _ (ap (λ z. eqb z (h.ids mk.holding.job)) (eqb-true _ _ b.0) ∙ eq-eqb _ _ (ap h.ids (sym mk.job))) (and_from _ _ (ap not alive) (ap not other))))))
         ]
       ]
@@ -139,7 +131,7 @@ module _ (m : Model) (h : History) (rel gone : ℕ → ℕ) (p o : ℕ) (mode : 
     count = λ q run. omega (
       arith,
       t.count q run,
-      keep_more (λ e. is_aborted e.how && relies_on h.relied (h.ids q) e.job) (λ e. is_aborted e.how && relies_on relied' (h.ids q) e.job) h.ended
+      filter_more (λ e. is_aborted e.how && relies_on h.relied (h.ids q) e.job) (λ e. is_aborted e.how && relies_on relied' (h.ids q) e.job) h.ended
           (λ e u. let b = and_parts _ _ u in and_from _ _ b.0 (more_relied h.relied _ (h.ids q) e.job b.1)),
     );
   }
@@ -151,12 +143,7 @@ module _ (m : Model) (h : History) (rel gone : ℕ → ℕ) (w : Ending) (k : �
 
   ended_cases : (x : ℕ) → has_ended ended' x ≡ true → (has_ended h.ended x ≡ true) ⊎ (h.ids k ≡ x)
   unfolding has_ended
-  ended_cases x e =
-      let a = any_in (λ e. eqb e.job x) ended' e in
-      elim (append_cases h.ended _ a.0 a.1) [
-        | inl i ↦ inl (in_any _ h.ended a.0 i a.2)
-        | inr i ↦ elim i [ inl z ↦ inr (ap (λ e. e.job) z ∙ eqb-true _ _ a.2) | inr z ↦ absurd z ]
-      ]
+  ended_cases x e = grind (arith, e, list_any-append (λ (y : Ended). eqb y.job x) h.ended (record { job = h.ids k; how = w } ∷ []))
 
   inside : k < length m.jobs
   inside = omega (arith, sh.places, runs_small m sh k run_k)
@@ -165,36 +152,18 @@ module _ (m : Model) (h : History) (rel gone : ℕ → ℕ) (w : Ending) (k : �
   unfolding aborts
   by_place_end = record {
     known = λ p x run e. t.known p x (old p run).0 (in_without_one _ k x e).0;
-    alive = λ p run. elim (cases_Bool (has_ended ended' (h.ids p))) [
-      | inr e ↦ e
-      | inl e ↦ let o = old p run in elim (ended_cases (h.ids p) e) [ inl z ↦ absurd (both_ways _ (t.alive p o.0) z) | inr z ↦ absurd (o.1 (sym (t.apart k p run_k o.0 z))) ]
-    ];
+    alive = λ p run. let o = old p run in grind (arith, ended_cases (h.ids p), t.alive p o.0, o.1, t.apart k p run_k o.0);
     apart = λ p q run run'. t.apart p q (old p run).0 (old q run').0;
     older = λ p run. t.older p (old p run).0;
-    past = λ x e. elim (ended_cases x e) [ inl z ↦ t.past x z | inr z ↦ omega (arith, t.older k run_k, z) ];
+    past = λ x e. grind (arith, ended_cases x e, t.past x, t.older k run_k);
     count = λ p run. counts p (old p run).0;
   }
     where
       old : (p : ℕ) → RunsIn (set m.jobs k None) p → Runs m p × (p ≡ k → ⊥)
       old p run = ended_runs m.jobs k p inside run
 
-      counts : (p : ℕ) → Runs m p → gone p + cond (has (rel p) k && is_aborted w) 1 0 ≤ length (keep (λ e. is_aborted e.how && relies_on h.relied (h.ids p) e.job) ended')
-      counts p run = go (has (rel p) k && is_aborted w) (is_aborted w && relies_on h.relied (h.ids p) (h.ids k)) refl refl
-        where
-          T : Ended → Bool
-          T e = is_aborted e.how && relies_on h.relied (h.ids p) e.job
-
-          last : Ended
-          last = record { job = h.ids k; how = w }
-
-          counted : gone p ≤ length (keep T h.ended)
-          counted = t.count p run
-
-          pushed : T last ≡ true → length (keep T ended') ≡ length (keep T h.ended) + 1
-          pushed f = ap length (keep_push_yes T h.ended last f) ∙ length-append (keep T h.ended) (last ∷ [])
-
-          go : (b d : Bool) → (has (rel p) k && is_aborted w) ≡ b → (is_aborted w && relies_on h.relied (h.ids p) (h.ids k)) ≡ d → gone p + cond b 1 0 ≤ length (keep T ended')
-          go true true e f = omega (arith, counted, pushed f)
-          go false true e f = omega (arith, counted, pushed f)
-          go true false e f = let z = and_parts _ _ e in absurd (both_ways _ f (and_from _ _ z.1 (t.known p k run z.0)))
-          go false false e f = omega (arith, counted, ap length (keep_push_no T h.ended last f))
+      counts : (p : ℕ) → Runs m p → gone p + cond (has (rel p) k && is_aborted w) 1 0 ≤ length (filter (λ e. is_aborted e.how && relies_on h.relied (h.ids p) e.job) ended')
+      counts p run =
+          let T : Ended → Bool = λ e. is_aborted e.how && relies_on h.relied (h.ids p) e.job in
+          let counted : gone p ≤ length (filter T h.ended) = t.count p run in
+          grind (arith, common_steps, counted, t.known p k run, filter-append T h.ended (record { job = h.ids k; how = w } ∷ []))

@@ -1,6 +1,8 @@
 -- Who holds and who runs at the end of a past.
 use Rattle.std.proofs.Common.{◌≡◌, ℕ, ◌+◌, Bool, true, false, cond, ◌||◌, eqb, ◌⊎◌, ◌↔◌, List, [], ◌∷◌, ◌++◌, Some, None, Option, sym, refl, ap, ◌∙◌, subst, inl, inr, arith}
-use Rattle.std.proofs.lemmas.Bool.{true≢false, false≢true, eqb-true, eq-eqb, or_parts}
+use Rattle.std.specs.Prelude.{flat_map}
+use Rattle.std.specs.List.{list_any}
+use Rattle.std.proofs.lemmas.Bool.{false≢true, eqb-true, eq-eqb}
 use Rattle.terms.specs.declared.calls.Call.{Call}
 use Rattle.terms.specs.declared.calls.Call.TheVariants.{Begin, Lock, Image, Commit, Abort}
 use Rattle.protocol.specs.declared.holdings.Holding.{Holding}
@@ -8,35 +10,32 @@ use Rattle.protocol.specs.declared.refusals.Refusal.{Refusal}
 use Rattle.protocol.specs.History.{History, history_one, history, history_of, blank}
 use Rattle.protocol.specs.HistoryLaws.{accepted, begun_at, imaged_at, ended_at, begins_in, Held, Running, remains, starts, left}
 use Rattle.protocol.specs.Holdings.{locked, turn_state}
-use Rattle.protocol.specs.Lists.{any, each, In}
+use Rattle.protocol.specs.Lists.{In}
 use Rattle.protocol.specs.Past.{Event}
 use Rattle.protocol.proofs.HistoryReads.{event, listed}
 use Rattle.protocol.proofs.Lists.{append_left, append_right, append_cases}
 
 -- ---- holdings
 abbrev became : List Event → Holding → Holding
-became es g = record { job = g.job; object = g.object; state = turn_state (any (imaged_at g.job g.object) es) g.state }
+became es g = record { job = g.job; object = g.object; state = turn_state (list_any (imaged_at g.job g.object) es) g.state }
 
 held_later : (e : Event) (es : List Event) (h : Holding) → Held es h → Held (e ∷ es) h
 held_later e es h w = record { before = e ∷ w.before; since = w.since; mode = w.mode; lock = ap (λ xs. e ∷ xs) w.lock; runs = w.runs; state = w.state }
 
 -- what the lock of an event leaves
-held_now : (a : Option Refusal) (c : Call) (es : List Event) (h : Holding) → In h (each (remains es) (cond (accepted a) (starts c) [])) → Held (record { call = c; answer = a } ∷ es) h
+held_now : (a : Option Refusal) (c : Call) (es : List Event) (h : Holding) → In h (flat_map (remains es) (cond (accepted a) (starts c) [])) → Held (record { call = c; answer = a } ∷ es) h
 held_now (Some x) c es h i = absurd i
+held_now None (Lock p o mode) es h i =
+    let r : (list_any (ended_at p) es ≡ false) × (became es (locked p o mode) ≡ h) = grind (arith, i) in
+    subst (Held (event (Lock p o mode) ∷ es)) r.1 (record { before = []; since = es; mode = mode; lock = refl; runs = r.0; state = refl })
 held_now None (Begin p k a) es h i = absurd i
-held_now None (Lock p o mode) es h i = go (any (ended_at p) es) refl (elim (append_cases (remains es (locked p o mode)) [] h i) [ inl j ↦ j | inr j ↦ absurd j ])
-  where
-    go : (b : Bool) → any (ended_at p) es ≡ b → In h (cond b [] (became es (locked p o mode) ∷ [])) → Held (event (Lock p o mode) ∷ es) h
-    go true e j = absurd j
-    go false e (inl q) = subst (Held (event (Lock p o mode) ∷ es)) q (record { before = []; since = es; mode = mode; lock = refl; runs = e; state = refl })
-    go false e (inr j) = absurd j
 held_now None (Image p o) es h i = absurd i
 held_now None (Commit p) es h i = absurd i
 held_now None (Abort p) es h i = absurd i
 
 left_held : (es : List Event) (h : Holding) → In h (left es) → Held es h
 left_held [] h i = absurd i
-left_held (e ∷ es) h i = elim (append_cases (each (remains es) (cond (accepted e.answer) (starts e.call) [])) (left es) h i) [
+left_held (e ∷ es) h i = elim (append_cases (flat_map (remains es) (cond (accepted e.answer) (starts e.call) [])) (left es) h i) [
   | inl j ↦ held_now e.answer e.call es h j
   | inr j ↦ held_later e es h (left_held es h j)
 ]
@@ -44,13 +43,9 @@ left_held (e ∷ es) h i = elim (append_cases (each (remains es) (cond (accepted
 held_left : (es : List Event) (h : Holding) → Held es h → In h (left es)
 held_left es h w = subst (λ xs. In h (left xs)) (sym w.lock) (go w.before)
   where
-    here : (b : Bool) → b ≡ false → In h (cond b [] (became w.since (locked h.job h.object w.mode) ∷ []))
-    here true e = absurd (true≢false e)
-    here false e = inl (λ i. record { job = h.job; object = h.object; state = sym w.state i })
-
     go : (xs : List Event) → In h (left (xs ++ event (Lock h.job h.object w.mode) ∷ w.since))
-    go [] = append_left _ (left w.since) h (append_left (remains w.since (locked h.job h.object w.mode)) [] h (here _ w.runs))
-    go (x ∷ xs) = append_right (each (remains (xs ++ event (Lock h.job h.object w.mode) ∷ w.since)) (cond (accepted x.answer) (starts x.call) [])) _ h (go xs)
+    go [] = append_left _ (left w.since) h (append_left (remains w.since (locked h.job h.object w.mode)) [] h (grind (arith, w.runs, w.state)))
+    go (x ∷ xs) = append_right (flat_map (remains (xs ++ event (Lock h.job h.object w.mode) ∷ w.since)) (cond (accepted x.answer) (starts x.call) [])) _ h (go xs)
 
 pub holdings_told : (es : List Event) (h : Holding) → In h (history_of es).holdings ↔ Held es h
 holdings_told es h = (λ i. left_held es h (subst (In h) (listed es) i), λ w. subst (In h) (sym (listed es)) (held_left es h w))
@@ -61,21 +56,21 @@ running_later e es p w = record { before = e ∷ w.before; since = w.since; kind
 
 -- a job ran before, and nothing was begun or ended there since
 abbrev RunsOn : History → List Event → ℕ → Type 0
-RunsOn h es p = (h.runs p ≡ true) × (any (begun_at p) es ≡ false) × (any (ended_at p) es ≡ false)
+RunsOn h es p = (h.runs p ≡ true) × (list_any (begun_at p) es ≡ false) × (list_any (ended_at p) es ≡ false)
 
 runs_why : (h : History) (es : List Event) (p : ℕ) → (history h es).runs p ≡ true → Running es p ⊎ RunsOn h es p
 unfolding history
 runs_why h [] p e = inr (e, refl, refl)
 runs_why h (e ∷ es) p run = go e.answer e.call run (λ g. runs_why g es p)
   where
-    begun : (q k a : ℕ) (b : Bool) → eqb p q ≡ b → Running es p ⊎ ((cond b true (h.runs p) ≡ true) × (any (begun_at p) es ≡ false) × (any (ended_at p) es ≡ false))
-        → Running (event (Begin q k a) ∷ es) p ⊎ ((h.runs p ≡ true) × ((b || any (begun_at p) es) ≡ false) × (any (ended_at p) es ≡ false))
+    begun : (q k a : ℕ) (b : Bool) → eqb p q ≡ b → Running es p ⊎ ((cond b true (h.runs p) ≡ true) × (list_any (begun_at p) es ≡ false) × (list_any (ended_at p) es ≡ false))
+        → Running (event (Begin q k a) ∷ es) p ⊎ ((h.runs p ≡ true) × ((b || list_any (begun_at p) es) ≡ false) × (list_any (ended_at p) es ≡ false))
     begun q k a b e (inl w) = inl (running_later _ es p w)
     begun q k a true e (inr w) = inl (record { before = []; since = es; kind = k; argument = a; begin = ap (λ x. event (Begin x k a) ∷ es) (sym (eqb-true p q e)); last = w.1; runs = w.2 })
     begun q k a false e (inr w) = inr w
 
-    ended : (c : Call) (b : Bool) → Running es p ⊎ ((cond b false (h.runs p) ≡ true) × (any (begun_at p) es ≡ false) × (any (ended_at p) es ≡ false))
-        → Running (event c ∷ es) p ⊎ ((h.runs p ≡ true) × (any (begun_at p) es ≡ false) × ((b || any (ended_at p) es) ≡ false))
+    ended : (c : Call) (b : Bool) → Running es p ⊎ ((cond b false (h.runs p) ≡ true) × (list_any (begun_at p) es ≡ false) × (list_any (ended_at p) es ≡ false))
+        → Running (event c ∷ es) p ⊎ ((h.runs p ≡ true) × (list_any (begun_at p) es ≡ false) × ((b || list_any (ended_at p) es) ≡ false))
     ended c b (inl w) = inl (running_later _ es p w)
     ended c true (inr w) = absurd (false≢true w.0)
     ended c false (inr w) = inr w
@@ -96,67 +91,23 @@ runs_why h (e ∷ es) p run = go e.answer e.call run (λ g. runs_why g es p)
 history_append : (h : History) (xs ys : List Event) → history h (xs ++ ys) ≡ history (history h xs) ys
 unfolding history
 history_append h [] ys = refl
-history_append h (x ∷ xs) ys = go x.answer (λ g. history_append g xs ys)
-  where
-    go : (a : Option Refusal) → ((g : History) → history g (xs ++ ys) ≡ history (history g xs) ys)
-        → ◌≡◌ {A = History} (elim a [ None ↦ history (history_one h x.call) (xs ++ ys) | Some y ↦ history h (xs ++ ys) ]) (history (elim a as (λ _. History) [ None ↦ history (history_one h x.call) xs | Some y ↦ history h xs ]) ys)
-    go None rec = rec (history_one h x.call)
-    go (Some y) rec = rec h
+history_append h (x ∷ xs) ys = grind (arith, history_append (history_one h x.call) xs ys, history_append h xs ys)
 
 -- a job runs on where none is ended, and has its number where none is begun
-runs_on : (h : History) (es : List Event) (p : ℕ) → any (ended_at p) es ≡ false → h.runs p ≡ true → (history h es).runs p ≡ true
+runs_on : (h : History) (es : List Event) (p : ℕ) → list_any (ended_at p) es ≡ false → h.runs p ≡ true → (history h es).runs p ≡ true
 unfolding history
 runs_on h [] p n e = e
-runs_on h (x ∷ es) p n e = go x.answer x.call n (λ g. runs_on g es p)
-  where
-    again : (b : Bool) → h.runs p ≡ true → cond b true (h.runs p) ≡ true
-    again true e = refl
-    again false e = e
+runs_on h (x ∷ es) p n e = grind (arith, n, e, runs_on (history_one h x.call) es p, runs_on h es p)
 
-    still : (b : Bool) → b ≡ false → h.runs p ≡ true → cond b false (h.runs p) ≡ true
-    still true n e = absurd (true≢false n)
-    still false n e = e
-
-    go : (a : Option Refusal) (c : Call) → any (ended_at p) (record { call = c; answer = a } ∷ es) ≡ false → ((g : History) → any (ended_at p) es ≡ false → g.runs p ≡ true → (history g es).runs p ≡ true)
-        → (elim a as (λ _. History) [ None ↦ history (history_one h c) es | Some y ↦ history h es ]).runs p ≡ true
-    go (Some y) c n rec = rec h n e
-    go None (Begin q k a) n rec = rec (history_one h (Begin q k a)) n (again (eqb p q) e)
-    go None (Lock q o mode) n rec = rec (history_one h (Lock q o mode)) n e
-    go None (Image q o) n rec = rec (history_one h (Image q o)) n e
-    go None (Commit q) n rec = let b = or_parts (eqb p q) (any (ended_at p) es) n in rec (history_one h (Commit q)) b.1 (still (eqb p q) b.0 e)
-    go None (Abort q) n rec = let b = or_parts (eqb p q) (any (ended_at p) es) n in rec (history_one h (Abort q)) b.1 (still (eqb p q) b.0 e)
-
-same_number : (h : History) (es : List Event) (p : ℕ) → any (begun_at p) es ≡ false → (history h es).ids p ≡ h.ids p
+same_number : (h : History) (es : List Event) (p : ℕ) → list_any (begun_at p) es ≡ false → (history h es).ids p ≡ h.ids p
 unfolding history
 same_number h [] p n = refl
-same_number h (x ∷ es) p n = go x.answer x.call n (λ g. same_number g es p)
-  where
-    other : (b : Bool) → b ≡ false → cond b h.begun (h.ids p) ≡ h.ids p
-    other true n = absurd (true≢false n)
-    other false n = refl
-
-    go : (a : Option Refusal) (c : Call) → any (begun_at p) (record { call = c; answer = a } ∷ es) ≡ false → ((g : History) → any (begun_at p) es ≡ false → (history g es).ids p ≡ g.ids p)
-        → (elim a as (λ _. History) [ None ↦ history (history_one h c) es | Some y ↦ history h es ]).ids p ≡ h.ids p
-    go (Some y) c n rec = rec h n
-    go None (Begin q k a) n rec = let b = or_parts (eqb p q) (any (begun_at p) es) n in rec (history_one h (Begin q k a)) b.1 ∙ other (eqb p q) b.0
-    go None (Lock q o mode) n rec = rec (history_one h (Lock q o mode)) n
-    go None (Image q o) n rec = rec (history_one h (Image q o)) n
-    go None (Commit q) n rec = rec (history_one h (Commit q)) n
-    go None (Abort q) n rec = rec (history_one h (Abort q)) n
+same_number h (x ∷ es) p n = grind (arith, n, same_number (history_one h x.call) es p, same_number h es p)
 
 begun_count : (h : History) (es : List Event) → (history h es).begun ≡ h.begun + begins_in es
 unfolding history
 begun_count h [] = omega arith
-begun_count h (x ∷ es) = go x.answer x.call (λ g. begun_count g es)
-  where
-    go : (a : Option Refusal) (c : Call) → ((g : History) → (history g es).begun ≡ g.begun + begins_in es)
-        → (elim a as (λ _. History) [ None ↦ history (history_one h c) es | Some y ↦ history h es ]).begun ≡ h.begun + begins_in (record { call = c; answer = a } ∷ es)
-    go (Some y) c rec = rec h
-    go None (Begin q k a) rec = omega (arith, rec (history_one h (Begin q k a)))
-    go None (Lock q o mode) rec = rec (history_one h (Lock q o mode))
-    go None (Image q o) rec = rec (history_one h (Image q o))
-    go None (Commit q) rec = rec (history_one h (Commit q))
-    go None (Abort q) rec = rec (history_one h (Abort q))
+begun_count h (x ∷ es) = grind (arith, begun_count (history_one h x.call) es, begun_count h es)
 
 -- the history right behind the begin
 abbrev at_begin : (es : List Event) (p : ℕ) → Running es p → History

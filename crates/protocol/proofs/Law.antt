@@ -1,26 +1,24 @@
 -- The law of the book, from the invariant beside the plain run and the history.
-use Rattle.std.proofs.Common.{◌≡◌, ℕ, ◌<◌, true, false, cond, eqb, List, [], ◌∷◌, ◌++◌, map, length, get_or, set, Some, None, Option, sym, refl, ap, ◌∙◌, subst, inl, inr, arith, get_or-set_other, get_or-set_same}
-use Rattle.std.proofs.lemmas.Bool.{false≢true, true≢false, cases_eq, eq-eqb, ne_eqb, cond-true, cond-false}
+use Rattle.std.proofs.Common.{◌≡◌, ℕ, true, false, cond, eqb, List, [], ◌∷◌, ◌++◌, map, get_or, set, Some, None, Option, sym, refl, ap, ◌∙◌, inl, inr, arith}
+use Rattle.std.specs.Prelude.{is_some, filter}
+use Rattle.std.proofs.lemmas.Bool.{false≢true, true≢false}
 use Rattle.protocol.specs.declared.holdings.Holding.{Holding}
-use Rattle.protocol.specs.declared.jobs.Job.{Job}
 use Rattle.terms.specs.declared.calls.Call.{Call}
 use Rattle.terms.specs.declared.calls.Call.TheVariants.{Begin, Lock, Image, Commit, Abort}
 use Rattle.protocol.specs.declared.refusals.Refusal.{Refusal}
 use Rattle.protocol.specs.History.{History, history_one, history, blank, has_ended, aborts}
 use Rattle.protocol.specs.Holdings.{begins, waits}
 use Rattle.protocol.specs.Law.{Stands}
-use Rattle.protocol.specs.Lists.{is_some, keep}
 use Rattle.protocol.specs.Model.{job_at, Model, new}
 use Rattle.protocol.specs.Past.{past}
-use Rattle.protocol.specs.Places.{has}
 use Rattle.protocol.specs.PlainRun.{Plain, plain_one, plain}
 use Rattle.protocol.specs.Settling.{settle}
 use Rattle.protocol.specs.Step.{next, answer, step, run}
 use Rattle.terms.specs.Rule.{Rule}
 use Rattle.protocol.specs.declared.jobs.Ending.TheVariants.{Committed, Aborted}
 use Rattle.protocol.specs.Waiting.{WaitsFor}
-use Rattle.protocol.proofs.Running.{Runs, nobody_at, nobody_runs}
-use Rattle.protocol.proofs.Chains.{waits_none_assumes_none}
+use Rattle.protocol.proofs.Running.{Runs, nobody_at, nobody_runs, set_runs}
+use Rattle.protocol.proofs.Consistent.{assumes_none}
 use Rattle.protocol.proofs.Membership.{none_in}
 use Rattle.protocol.proofs.WellFormed.{WellFormed, runs_small}
 use Rattle.protocol.proofs.Waiting.{why_waits}
@@ -44,13 +42,6 @@ pub record LawInvariant (r : Rule) (m : Model) (s : Plain) (h : History) : Type 
   pub gone : ℕ → ℕ
   pub covered : Covered m rel gone
   pub by_place : ByPlace m.jobs h rel gone
-
--- whether a job runs at q, once the one at p has been set
-set_runs : (js : List (Option Job)) (p q : ℕ) (j : Option Job) → p < length js → is_some (get_or (set js p j) q None) ≡ cond (eqb q p) (is_some j) (is_some (get_or js q None))
-set_runs js p q j l = elim (cases_eq q p) [
-  | inl e ↦ ap (λ x. is_some (get_or (set js p j) x None)) e ∙ ap is_some (get_or-set_same js p j None l) ∙ sym (cond-true (eqb q p) _ _ (eq-eqb q p e))
-  | inr n ↦ ap is_some (get_or-set_other js p q j None n) ∙ sym (cond-false (eqb q p) _ _ (ne_eqb q p n))
-]
 
 pub law_new : (r : Rule) (x l : ℕ) (first : List ℕ) → LawInvariant r (new x l first) (record { values = first; pending = [] }) blank
 unfolding new has_ended
@@ -106,7 +97,7 @@ law_next r m s h (Commit p) e i =
     let b = commit_accepted r m p e in
     record {
       invariant = invariant_next r m s (Commit p) e i.invariant;
-      holdings = ap (keep _) i.holdings;
+      holdings = ap (filter _) i.holdings;
       running = ended_running m h p b.runs i.invariant.well_formed i.running;
       rel = _;
       gone = _;
@@ -114,7 +105,7 @@ law_next r m s h (Commit p) e i =
         b.some.0,
         b.some.1,
         b.some.2,
-        let none = waits_none_assumes_none m.holdings _ b.some.0.assumes (i.invariant.consistent.execution_chained b.some.0 b.some.1) (ap (waits m.holdings) b.some.2 ∙ b.free) in
+        let none = assumes_none m i.invariant.consistent p b.free b.some.0 b.some.1 b.some.2 in
             record { on_commits = λ k c. absurd (none k (inl c)); on_aborts = λ k c. absurd (none k (inr c)) },
       ));
       by_place = by_place_end m h i.rel i.gone Committed p b.runs i.invariant.well_formed i.by_place;
@@ -123,7 +114,7 @@ law_next r m s h (Abort p) e i =
     let b = abort_accepted r m p e in
     record {
       invariant = invariant_next r m s (Abort p) e i.invariant;
-      holdings = ap (keep _) i.holdings;
+      holdings = ap (filter _) i.holdings;
       running = ended_running m h p b i.invariant.well_formed i.running;
       rel = _;
       gone = _;
@@ -159,7 +150,7 @@ same_robustness r m (c ∷ cs) = same_robustness r (step r m c) cs ∙ go (answe
     go (Some x) c = refl
 
 none_waits : (hs gs : List Holding) (q : ℕ) → hs ≡ gs → waits gs q ≡ 0 → (k : ℕ) → WaitsFor hs q k → ⊥
-none_waits hs gs q e z k w = none_in k (subst (λ n. has n k ≡ true) (ap (λ l. waits l q) e ∙ z) (why_waits hs q k w))
+none_waits hs gs q e z k w = none_in k (grind (arith, e, z, why_waits hs q k w))
 
 pub law : Stands
 unfolding new

@@ -33,7 +33,6 @@ pub mod RingTest
 pub mod Always
 pub mod WaitingExact
 pub mod SettlingExact
-pub mod ListOrder
 pub mod PairingExact
 pub mod MakersOrder
 pub mod HistoryReads

@@ -1,5 +1,6 @@
 -- The versions of an object stand in the order in which their makers locked it.
-use Rattle.std.proofs.Common.{◌≡◌, ℕ, not, ◌&&◌, ◌||◌, eqb, List, [], ◌∷◌, ◌++◌, map, None, sym, refl, ap, ◌∙◌, inl, inr}
+use Rattle.std.proofs.Common.{◌≡◌, ℕ, not, ◌&&◌, eqb, List, [], ◌∷◌, ◌++◌, map, None, sym, refl, ap, ◌∙◌, inl, inr, arith}
+use Rattle.std.specs.List.{AllZip}
 use Rattle.std.proofs.lemmas.Bool.{eqb-true, eqb-false, eq-eqb, ne_eqb, not-true, and_parts, and_from}
 use Rattle.terms.specs.declared.calls.Call.{Call}
 use Rattle.terms.specs.declared.calls.Call.TheVariants.{Begin, Lock, Image, Commit, Abort}
@@ -16,15 +17,14 @@ use Rattle.protocol.specs.Holdings.{turn, position}
 use Rattle.protocol.specs.Image.{version_by}
 use Rattle.protocol.specs.Lists.{In, Behind}
 use Rattle.protocol.specs.Model.{Model, new, job_at, executions_of, names}
-use Rattle.protocol.specs.Places.{has, single}
+use Rattle.protocol.specs.Places.{single}
 use Rattle.protocol.specs.Settling.{survives, settled_version, settle}
 use Rattle.protocol.specs.Step.{answer, next, run}
-use Rattle.protocol.specs.VersionOrder.{LockedBefore, MakesVersion, EachToEach, VersionOrder}
+use Rattle.protocol.specs.VersionOrder.{LockedBefore, MakesVersion, VersionOrder}
 use Rattle.protocol.proofs.Accepted.{Images, image_accepted}
 use Rattle.protocol.proofs.Always.{Lawful, lawful_next, always, accepted_step}
 use Rattle.protocol.proofs.Invariant.{invariant_new}
-use Rattle.protocol.proofs.ListOrder.{append_behind}
-use Rattle.protocol.proofs.Lists.{in_keep, in_map, behind_in, behind_two, behind_append, in_keep_behind, keep_behind, in_map_behind, map_behind}
+use Rattle.protocol.proofs.Lists.{append_behind, in_filter, in_map, behind_in, behind_two, behind_append, in_filter_behind, filter_behind, in_map_behind, map_behind}
 use Rattle.protocol.proofs.SetDigits.{has_join, has_single}
 use Rattle.protocol.proofs.WellFormed.{WellFormed}
 use Rattle.protocol.proofs.HoldingStates.{turned_turn, open_turns}
@@ -79,7 +79,7 @@ module _ (r : Rule) (m : Model) (p o : ℕ) (s : WellFormed m) (b : Images m p o
   made_is : (v : Version) → In v (made r m p o) → (v.object ≡ o) × (v.maker ≡ p)
   made_is v i =
       let a = in_map _ (executions_of p m) v i in
-      (sym (ap (λ x. x.object) a.2), sym (ap (λ x. x.maker) a.2) ∙ eqb-true _ _ (in_keep (names p) m.executions a.0 a.1).1)
+      (sym (ap (λ x. x.object) a.2), sym (ap (λ x. x.maker) a.2) ∙ eqb-true _ _ (in_filter (names p) m.executions a.0 a.1).1)
 
   ordered_image : Ordered m.versions m.holdings → Ordered (m.versions ++ made r m p o) (map (turn p o) m.holdings)
   ordered_image f v w c e n = elim (append_behind m.versions (made r m p o) v w c) [
@@ -98,12 +98,12 @@ ordered_settle : (how : Ending) (k : ℕ) (values : List ℕ) (m : Model) → Or
 unfolding settle
 ordered_settle how k values m f v w b e n =
     let a = in_map_behind (settled_version k) _ v w b in
-    let t = in_keep_behind (λ v. not (eqb v.maker k) && survives how k v.assumes) m.versions a.0 a.1 a.2 in
+    let t = in_filter_behind (λ v. not (eqb v.maker k) && survives how k v.assumes) m.versions a.0 a.1 a.2 in
     let l = f a.0 a.1 t.0 (ap (λ x. x.object) a.3 ∙ e ∙ sym (ap (λ x. x.object) a.4)) (λ q. n (sym (ap (λ x. x.maker) a.3) ∙ q ∙ ap (λ x. x.maker) a.4)) in
     record {
       earlier = l.earlier;
       later = l.later;
-      order = keep_behind _ m.holdings _ _ l.order
+      order = filter_behind _ m.holdings _ _ l.order
           (ap not (ne_eqb _ _ (λ q. eqb-false _ _ (not-true _ (and_parts _ _ t.1).0) (sym l.of ∙ q))))
           (ap not (ne_eqb _ _ (λ q. eqb-false _ _ (not-true _ (and_parts _ _ t.2).0) (sym l.by ∙ q))));
       of = l.of ∙ ap (λ x. x.maker) a.3;
@@ -129,18 +129,18 @@ ordered r robustness limit first cs =
     (new robustness limit first) blank cs ((record { values = first; pending = [] }, invariant_new r robustness limit first), λ v w b. absurd b)).1
 
 -- ---- one version for each execution
-each_mapped : {A B : Type 0} (R : A → B → Type 0) (f : A → B) (xs : List A) → ((x : A) → In x xs → R x (f x)) → EachToEach R xs (map f xs)
+each_mapped : {A B : Type 0} (R : A → B → Type 0) (f : A → B) (xs : List A) → ((x : A) → In x xs → R x (f x)) → AllZip R xs (map f xs)
 each_mapped R f [] g = tt
 each_mapped R f (x ∷ xs) g = (g x (inl refl), each_mapped R f xs (λ y i. g y (inr i)))
 
 makes_version : (r : Rule) (m : Model) (p o : ℕ) (e : Execution) → In e (executions_of p m) → MakesVersion r m p o e (version_by r (job_at m p) o (position p o m.holdings) e)
 makes_version r m p o e i =
-    let own : e.job ≡ p = eqb-true _ _ (in_keep (names p) m.executions e i).1 in
+    let own : e.job ≡ p = eqb-true _ _ (in_filter (names p) m.executions e i).1 in
     record {
       object = refl;
       maker = own;
       gives = refl;
-      commits = λ k. has_join (commits_of e.assumes) (single e.job) k ∙ ap (λ b. has (commits_of e.assumes) k || b) (has_single e.job k ∙ ap (λ q. eqb q k) own);
+      commits = λ k. grind (arith, own, has_join (commits_of e.assumes) (single e.job) k, has_single e.job k);
       aborts = λ k. refl;
     }
 

@@ -1,6 +1,8 @@
 -- What an object offers, and which executions a lock leaves.
 use Rattle.std.proofs.Common.{◌≡◌, ℕ, ◌+◌, true, not, ◌⊎◌, ◌↔◌, List, ◌++◌, map, length, sym, refl, ap, ◌∙◌, subst, ap₂, inl, inr, append-nil}
-use Rattle.std.proofs.lemmas.Bool.{eqb-true, eq-eqb, ne_eqb, not-true, and_parts, and_from, leb-true, le-leb}
+use Rattle.std.specs.Prelude.{flat_map, filter}
+use Rattle.std.proofs.lemmas.List.Elements.{filter-append, filter_agree}
+use Rattle.std.proofs.lemmas.Bool.{both_ways, eqb-true, eq-eqb, ne_eqb, not-true, and_parts, and_from, leb-true, le-leb}
 use Rattle.terms.specs.declared.calls.Call.TheVariants.{Lock}
 use Rattle.terms.specs.declared.modes.Mode.{Mode}
 use Rattle.terms.specs.Rule.{Rule}
@@ -9,62 +11,45 @@ use Rattle.protocol.specs.declared.assumptions.Offer.{Offer}
 use Rattle.protocol.specs.declared.assumptions.Version.{Version}
 use Rattle.protocol.specs.declared.holdings.Holding.{Holding}
 use Rattle.protocol.specs.Assumptions.{commits_of, aborts_of}
-use Rattle.protocol.specs.Holdings.{makers, later_makers}
-use Rattle.protocol.specs.Lists.{keep, each, In, Behind}
+use Rattle.protocol.specs.Holdings.{later_makers}
+use Rattle.protocol.specs.Lists.{In, Behind}
 use Rattle.protocol.specs.Model.{Model, executions_of, names}
 use Rattle.protocol.specs.Pairing.{offer, offers, pairing, is_kept, kept_pairs}
-use Rattle.protocol.specs.PairingLaws.{Makes, MakesLater, OfferLaws, newly, Meets, Stays, LockLaws, PairingLaws}
+use Rattle.protocol.specs.PairingLaws.{MakesLater, OfferLaws, newly, Meets, Stays, LockLaws, PairingLaws}
 use Rattle.protocol.specs.Places.{has, join, without, size}
 use Rattle.protocol.specs.SetLaws.{places}
 use Rattle.protocol.specs.Step.{next}
 use Rattle.protocol.proofs.Always.{accepted_step}
-use Rattle.protocol.proofs.SetSizes.{apart_disjoint}
-use Rattle.protocol.proofs.ListOrder.{same_tests, keep_append, keep_each, keep_all, keep_none, keep_twice, each_outer, each_inner, in_each}
-use Rattle.protocol.proofs.Lists.{in_keep, keep_in, in_map, map_in, each_in, behind_in, keep_behind, map_behind}
+use Rattle.protocol.proofs.SetSizes.{size_counts}
+use Rattle.protocol.proofs.Filters.{filter_flat_map, filter_all, filter_none, filter_twice}
+use Rattle.protocol.proofs.Lists.{each_outer, each_inner, in_each, in_filter, filter_in, in_map, map_in, each_in, behind_in, filter_behind, map_behind}
 use Rattle.protocol.proofs.Makers.{makers_why, why_makers, later_why, why_later}
-use Rattle.protocol.proofs.SetDigits.{has_zero, has_join, has_without, disjoint_apart}
-use Rattle.protocol.proofs.SetLaws.{same_members, new_in, size_counts}
+use Rattle.protocol.proofs.SetDigits.{has_zero, has_join, has_without, same_members, new_in, disjoint_apart, apart_disjoint}
 use Rattle.protocol.proofs.Membership.{join_left, join_right, join_cases}
 
 -- ---- offers
 module _ (hs : List Holding) (o : ℕ) where
-  makes : (k : ℕ) → (has (makers o hs) k ≡ true) ↔ Makes hs o k
-  makes k = (
-    λ e. let w = makers_why hs o k e in record { holding = w.holding; there = w.there; job = w.job; object = w.object; turns = w.turned },
-    λ w. why_makers hs o k (record { holding = w.holding; there = w.there; job = w.job; object = w.object; turned = w.turns }),
-  )
-
-  makes_later : (p k : ℕ) → (has (later_makers o p hs) k ≡ true) ↔ MakesLater hs o p k
-  makes_later p k = (
-    λ e.
-        let w = later_why hs o p k e in
-        let h = and_parts _ _ w.3 in
-        record { earlier = w.0; later = w.1; order = w.2; of = eqb-true _ _ h.0; object = eqb-true _ _ h.1; by = w.4; same = w.5; turns = w.6 },
-    λ w. subst (λ q. has (later_makers o p hs) q ≡ true) w.by
-        (why_later hs o p w.earlier w.later w.order (and_from _ _ (eq-eqb _ _ w.of) (eq-eqb _ _ w.object)) w.same w.turns),
-  )
-
   version_aborts : (k : ℕ) (v : Version) → (has (aborts_of (offer hs o v).assumes) k ≡ true) ↔ ((has (aborts_of v.assumes) k ≡ true) ⊎ MakesLater hs o v.maker k)
   version_aborts k v = (
-    λ e. elim (join_cases (aborts_of v.assumes) (later_makers o v.maker hs) k e) [ inl i ↦ inl i | inr i ↦ inr ((makes_later v.maker k).0 i) ],
-    elim [ inl i ↦ join_left (aborts_of v.assumes) _ k i | inr w ↦ join_right (aborts_of v.assumes) _ k ((makes_later v.maker k).1 w) ],
+    λ e. elim (join_cases (aborts_of v.assumes) (later_makers o v.maker hs) k e) [ inl i ↦ inl i | inr i ↦ inr (later_why hs o v.maker k i) ],
+    elim [ inl i ↦ join_left (aborts_of v.assumes) _ k i | inr w ↦ join_right (aborts_of v.assumes) _ k (why_later hs o v.maker k w) ],
   )
 
 offer_laws : OfferLaws
 offer_laws = record {
   stored_commits = λ m o k. has_zero k;
-  stored_aborts = λ m o k. makes m.holdings o k;
+  stored_aborts = λ m o k. (makers_why m.holdings o k, why_makers m.holdings o k);
   version_commits = λ hs o k v. refl;
   version_aborts = λ hs o k v. version_aborts hs o k v;
 }
 
 -- ---- one pair
 -- how many jobs are newly taken to abort
-grows : (e : Execution) (f : Offer) → size (without (join (aborts_of e.assumes) (aborts_of f.assumes)) (aborts_of e.assumes)) ≡ length (keep (newly e f) places)
+grows : (e : Execution) (f : Offer) → size (without (join (aborts_of e.assumes) (aborts_of f.assumes)) (aborts_of e.assumes)) ≡ length (filter (newly e f) places)
 grows e f =
     let a = aborts_of e.assumes in
     let b = aborts_of f.assumes in
-    ap size (new_in a b) ∙ size_counts (without b a) ∙ ap length (same_tests _ _ (has_without b a) places)
+    ap size (new_in a b) ∙ size_counts (without b a) ∙ ap length (filter_agree _ _ (has_without b a) places)
 
 module _ (r : Rule) (m : Model) (p o : ℕ) (mode : Mode) where
   abbrev paired : Execution → Offer → Execution
@@ -104,30 +89,30 @@ module _ (r : Rule) (m : Model) (p o : ℕ) (mode : Mode) where
   own = executions_of p m
 
   abbrev met_by : Execution → List Execution
-  met_by e = keep (is_kept m.robustness) (map (paired e) (offers m o))
+  met_by e = filter (is_kept m.robustness) (map (paired e) (offers m o))
 
-  listed : kept_pairs r m p o mode ≡ each met_by own
+  listed : kept_pairs r m p o mode ≡ flat_map met_by own
   unfolding kept_pairs
   listed = refl
 
   job : (e : Execution) → In e own → e.job ≡ p
-  job e i = eqb-true _ _ (in_keep (names p) m.executions e i).1
+  job e i = eqb-true _ _ (in_filter (names p) m.executions e i).1
 
   -- where a pair that stays stands
   stands : (e : Execution) (f : Offer) (x : Execution) → In e own → In f (offers m o) → Meets r m p o mode e f x → Stays m.robustness x → In x (met_by e)
-  stands e f x i j w s = keep_in _ (map (paired e) (offers m o)) x (subst (λ y. In y (map (paired e) (offers m o))) (only e f x (job e i) w) (map_in (paired e) (offers m o) f j)) ((stays x).1 s)
+  stands e f x i j w s = filter_in _ (map (paired e) (offers m o)) x (subst (λ y. In y (map (paired e) (offers m o))) (only e f x (job e i) w) (map_in (paired e) (offers m o) f j)) ((stays x).1 s)
 
-  found : (x : Execution) → In x (each met_by own) → (e : Execution) × (f : Offer) × In e own × In f (offers m o) × Meets r m p o mode e f x × Stays m.robustness x
+  found : (x : Execution) → In x (flat_map met_by own) → (e : Execution) × (f : Offer) × In e own × In f (offers m o) × Meets r m p o mode e f x × Stays m.robustness x
   found x i =
       let a = in_each met_by own x i in
-      let k = in_keep _ (map (paired a.0) (offers m o)) x a.2 in
+      let k = in_filter _ (map (paired a.0) (offers m o)) x a.2 in
       let b = in_map (paired a.0) (offers m o) x k.0 in
       (a.0, b.0, a.1, b.1, subst (Meets r m p o mode a.0 b.0) b.2 (meets a.0 b.0 (job a.0 a.1)), (stays x).0 k.1)
 
   in_order : (e : Execution) (f g : Offer) (x y : Execution) → In e own → Behind f g (offers m o)
       → Meets r m p o mode e f x → Stays m.robustness x → Meets r m p o mode e g y → Stays m.robustness y → Behind x y (met_by e)
   in_order e f g x y i b w s v u =
-      keep_behind _ (map (paired e) (offers m o)) x y
+      filter_behind _ (map (paired e) (offers m o)) x y
       (subst (λ z. Behind z y (map (paired e) (offers m o))) (only e f x (job e i) w)
       (subst (λ z. Behind (paired e f) z (map (paired e) (offers m o))) (only e g y (job e i) v) (map_behind (paired e) (offers m o) f g b)))
       ((stays x).1 s) ((stays y).1 u)
@@ -136,21 +121,21 @@ module _ (r : Rule) (m : Model) (p o : ℕ) (mode : Mode) where
   after : Model
   after = next r m (Lock p o mode)
 
-  own_after : executions_of p after ≡ each met_by own
+  own_after : executions_of p after ≡ flat_map met_by own
   unfolding after next
   own_after =
-      keep_append (names p) (keep (λ e. not (names p e)) m.executions) (kept_pairs r m p o mode)
+      filter-append (names p) (filter (λ e. not (names p e)) m.executions) (kept_pairs r m p o mode)
       ∙ ap₂ ◌++◌
-      (keep_none (names p) (keep (λ e. not (names p e)) m.executions) (λ e i. not-true _ (in_keep _ m.executions e i).1))
-      (ap (keep (names p)) listed ∙ keep_all (names p) (each met_by own) (λ e i. eq-eqb _ _ (found e i).4.own))
+      (filter_none (names p) (filter (λ e. not (names p e)) m.executions) (λ e i. both_ways _ (not-true _ (in_filter _ m.executions e i).1)))
+      (ap (filter (names p)) listed ∙ filter_all (names p) (flat_map met_by own) (λ e i. eq-eqb _ _ (found e i).4.own))
 
   others_after : (q : ℕ) → (q ≡ p → ⊥) → executions_of q after ≡ executions_of q m
   unfolding after next
   others_after q n =
-      keep_append (names q) (keep (λ e. not (names p e)) m.executions) (kept_pairs r m p o mode)
+      filter-append (names q) (filter (λ e. not (names p e)) m.executions) (kept_pairs r m p o mode)
       ∙ ap₂ ◌++◌
-      (keep_twice (names q) (λ e. not (names p e)) m.executions (λ e i. ap not (ne_eqb _ _ (λ s. n (sym (eqb-true _ _ i) ∙ s)))))
-      (ap (keep (names q)) listed ∙ keep_none (names q) (each met_by own) (λ e i. ne_eqb _ _ (λ s. n (sym s ∙ (found e i).4.own))))
+      (filter_twice (names q) (λ e. not (names p e)) m.executions (λ e i. ap not (ne_eqb _ _ (λ s. n (sym (eqb-true _ _ i) ∙ s)))))
+      (ap (filter (names q)) listed ∙ filter_none (names q) (flat_map met_by own) (λ e i t. n (sym (eqb-true _ _ t) ∙ (found e i).4.own)))
       ∙ append-nil (executions_of q m)
 
   lock_laws : LockLaws r m p o mode after
@@ -163,7 +148,7 @@ module _ (r : Rule) (m : Model) (p o : ℕ) (mode : Mode) where
         let k = behind_in own d e b in
         subst (Behind x y) (sym own_after) (each_outer met_by own d e b x y (stands d f x k.0 i w s) (stands e g y k.1 j v u));
     inner = λ e f g x y i b w s v u. subst (Behind x y) (sym own_after) (each_inner met_by own e i x y (in_order e f g x y i b w s v u));
-    listed = own_after ∙ keep_each (λ e. map (paired e) (offers m o)) (is_kept m.robustness) own;
+    listed = own_after ∙ filter_flat_map (is_kept m.robustness) (λ e. map (paired e) (offers m o)) own;
     others = others_after;
   }
 

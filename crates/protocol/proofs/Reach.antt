@@ -1,45 +1,11 @@
 -- What is reached from a set of jobs by waits has, with each job, all that this one waits for: seventeen rounds are enough for sixteen places.
 -- Words: `spread`, `rounds`, `reach` of specs/Holdings.
-use Rattle.std.proofs.Common.{◌≡◌, ℕ, zero, suc, ◌+◌, ◌/◌, ◌%◌, ◌<◌, ◌≤◌, true, eqb, ◌⊎◌, sym, refl, ◌∙◌, subst, inl, inr, arith}
-use lib.Count.{ones_in}
+use Rattle.std.proofs.Common.{◌≡◌, ℕ, zero, suc, cond, ◌+◌, ◌<◌, true, ◌⊎◌, inl, inr, arith}
 use Rattle.std.proofs.lemmas.Bool.{cases_lt}
 use Rattle.protocol.specs.Holdings.{spread, rounds, reach}
 use Rattle.protocol.specs.Places.{has, size}
-use Rattle.protocol.proofs.SetDigits.{has_suc, has_first, Digit, d0, d1, digit_of, ones_mono}
-use Rattle.protocol.proofs.Membership.{join_left, join_right, join_cases, cond_in, in_cond}
-
--- ---- sets of one size, one in the other, have the same members
-same_digit : (x y : ℕ) → Digit x → Digit y → y ≤ x → eqb y 1 ≡ true → eqb x 1 ≡ true
-same_digit x y d0 d0 l e = e
-same_digit x y d0 d1 l e = absurd (omega arith)
-same_digit x y d1 d0 l e = refl
-same_digit x y d1 d1 l e = refl
-
-same_in : (d a b : ℕ) → ((k : ℕ) → has a k ≡ true → has b k ≡ true) → ones_in d b ≤ ones_in d a → (k : ℕ) → k < d → has b k ≡ true → has a k ≡ true
-unfolding ones_in
-same_in zero a b f l k h e = absurd (omega arith)
-same_in (suc d) a b f l k h e =
-    let up : (k : ℕ) → has (a / 2) k ≡ true → has (b / 2) k ≡ true = λ k i. sym (has_suc b k) ∙ f (suc k) (has_suc a k ∙ i) in
-    let more = ones_mono d (a / 2) (b / 2) up in
-    let low = ones_mono 1 a b f in
-    go k h e (λ k i j. same_in d (a / 2) (b / 2) up (omega arith) k i j) (omega arith)
-  where
-    go : (k : ℕ) → k < suc d → has b k ≡ true → ((k : ℕ) → k < d → has (b / 2) k ≡ true → has (a / 2) k ≡ true) → b % 2 ≤ a % 2 → has a k ≡ true
-    go zero h e rec l = has_first a ∙ same_digit _ _ (digit_of a) (digit_of b) l (sym (has_first b) ∙ e)
-    go (suc k) h e rec l = has_suc a k ∙ rec k (omega arith) (sym (has_suc b k) ∙ e)
-
-pub same_size : (a b : ℕ) → ((k : ℕ) → has a k ≡ true → has b k ≡ true) → size b ≤ size a → (k : ℕ) → k < 16 → has b k ≡ true → has a k ≡ true
-unfolding size
-same_size = same_in 16
-
-ones_max : (d a : ℕ) → ones_in d a ≤ d
-unfolding ones_in
-ones_max zero a = omega arith
-ones_max (suc d) a = omega (arith, ones_max d (a / 2))
-
-pub size_max : (a : ℕ) → size a ≤ 16
-unfolding size
-size_max = ones_max 16
+use Rattle.protocol.proofs.SetSizes.{same_size, size_max}
+use Rattle.protocol.proofs.Membership.{join_left, join_right, join_cases, cond_in}
 
 -- ---- the rounds
 module _ (w : ℕ → ℕ) where
@@ -55,20 +21,12 @@ module _ (w : ℕ → ℕ) where
   pub spread_next : (n s k q : ℕ) → k < n → has s k ≡ true → has (w k) q ≡ true → has (spread w n s) q ≡ true
   unfolding spread
   spread_next zero s k q l h e = absurd (omega arith)
-  spread_next (suc n) s k q l h e =
-      elim (cases_lt k n) [
-        | inl i ↦ join_right _ _ q (spread_next n s k q i h e)
-        | inr i ↦ let same : k ≡ n = omega arith in join_left _ _ q (in_cond _ _ q (subst (λ x. has s x ≡ true) same h) (subst (λ x. has (w x) q ≡ true) same e))
-      ]
+  spread_next (suc n) s k q l h e = grind (arith, l, h, e, join_left (cond (has s n) (w n) 0) (spread w n s) q, join_right (cond (has s n) (w n) 0) (spread w n s) q, spread_next n s k q)
 
   pub spread_why : (n s q : ℕ) → has (spread w n s) q ≡ true → (has s q ≡ true) ⊎ ((k : ℕ) × (k < n) × (has s k ≡ true) × (has (w k) q ≡ true))
   unfolding spread
   spread_why zero s q h = inl h
-  spread_why (suc n) s q h =
-      elim (join_cases _ _ q h) [
-        | inl i ↦ let c = cond_in (has s n) (w n) q i in inr (n, omega arith, c.0, c.1)
-        | inr i ↦ elim (spread_why n s q i) [ inl j ↦ inl j | inr j ↦ inr (j.0, omega (arith, j.1), j.2, j.3) ]
-      ]
+  spread_why (suc n) s q h = grind (arith, join_cases (cond (has s n) (w n) 0) (spread w n s) q h, cond_in (has s n) (w n) q, spread_why n s q)
 
   closed_spread : (s : ℕ) → Closed s → Closed (spread w 16 s)
   unfolding Closed

@@ -21,7 +21,7 @@ falls_through : (hs : List Holding) (c : Acyclic hs) (p q : ℕ) → WaitsThroug
 falls_through hs c p q (directly w) = c.falls p q (why_waits hs p q w)
 falls_through hs c p q (through {k} w t) = omega (arith, c.falls p k (why_waits hs p k w), falls_through hs c k q t)
 
-pub no_ring : (hs : List Holding) → Acyclic hs → NoRing hs
+no_ring : (hs : List Holding) → Acyclic hs → NoRing hs
 no_ring hs c p t = omega (arith, falls_through hs c p p t)
 
 -- ---- what is reached is waited for

@@ -1,7 +1,9 @@
 -- Settling leaves exactly what it should.
-use Rattle.std.proofs.Common.{◌≡◌, ℕ, Bool, true, not, ◌&&◌, eqb, ◌↔◌, List, [], ◌∷◌, map, length, get_or, set, None, Option, sym, refl, ap, ◌∙◌, subst, inl, inr, arith, length-set, get_or-set_other, get_or-set_same}
+use Rattle.std.proofs.Common.{◌≡◌, ℕ, Bool, true, not, ◌&&◌, eqb, List, map, length, get_or, set, None, Option, sym, refl, ap, ◌∙◌, subst, inl, inr, arith, length-set, get_or-set_other, get_or-set_same}
+use Rattle.std.specs.Prelude.{filter}
 use lib.ListN.{get_or-eq_default}
-use Rattle.std.proofs.lemmas.Bool.{both_ways, cases_lt, cases_Bool, eqb-false, ne_eqb, and_parts, and_from, not-true}
+use Rattle.std.proofs.lemmas.List.{map-id}
+use Rattle.std.proofs.lemmas.Bool.{cases_lt, eqb-false, ne_eqb, and_parts, and_from, not-true}
 use Rattle.terms.specs.declared.calls.Call.TheVariants.{Commit, Abort}
 use Rattle.protocol.specs.declared.assumptions.Assumption.{Assumption}
 use Rattle.protocol.specs.declared.assumptions.Execution.{Execution}
@@ -11,48 +13,45 @@ use Rattle.protocol.specs.declared.jobs.Ending.{Ending}
 use Rattle.protocol.specs.declared.jobs.Ending.TheVariants.{Committed, Aborted}
 use Rattle.protocol.specs.declared.jobs.Job.{Job}
 use Rattle.protocol.specs.Assumptions.{commits_of, aborts_of}
-use Rattle.protocol.specs.Lists.{keep, In, Behind}
+use Rattle.protocol.specs.Lists.{In, Behind}
 use Rattle.protocol.specs.Model.{Model}
 use Rattle.protocol.specs.Places.{has, single, without}
-use Rattle.protocol.specs.Settling.{denied, survives, settled, settled_execution, settled_version, settle}
+use Rattle.protocol.specs.Settling.{survives, settled, settled_execution, settled_version, settle}
 use Rattle.protocol.specs.SettlingLaws.{TookOther, TakenOut, LeftExecution, LeftVersion, LeftHolding, Leaves, Settled, SettlingLaws}
 use Rattle.protocol.specs.Step.{next}
 use Rattle.protocol.proofs.Always.{accepted_step}
-use Rattle.protocol.proofs.Lists.{in_keep, keep_in, in_map, map_in, in_keep_behind, keep_behind, in_map_behind, map_behind}
-use Rattle.protocol.proofs.SetDigits.{has_without, has_single}
-use Rattle.protocol.proofs.SetLaws.{same_members}
+use Rattle.protocol.proofs.Lists.{in_filter, filter_in, in_map, map_in, in_filter_behind, filter_behind, in_map_behind, map_behind}
+use Rattle.protocol.proofs.SetDigits.{has_without, has_single, same_members}
 
 -- ---- a list that is cut by a test and then changed one by one
 module _ {A : Type 0} (t : A → Bool) (f : A → A) (Left : A → A → Type 0) (to : (a : A) → t a ≡ true → Left a (f a)) (from : (a x : A) → Left a x → (t a ≡ true) × (f a ≡ x)) where
-  leaves : (xs : List A) → Leaves Left xs (map f (keep t xs))
+  leaves : (xs : List A) → Leaves Left xs (map f (filter t xs))
   leaves xs = record {
     members = λ x. (
-      λ i. let a = in_map f (keep t xs) x i in let k = in_keep t xs a.0 a.1 in (a.0, k.0, subst (Left a.0) a.2 (to a.0 k.1)),
-      λ l. let b = from l.0 x l.2 in subst (λ y. In y (map f (keep t xs))) b.1 (map_in f (keep t xs) l.0 (keep_in t xs l.0 l.1 b.0)),
+      λ i. let a = in_map f (filter t xs) x i in let k = in_filter t xs a.0 a.1 in (a.0, k.0, subst (Left a.0) a.2 (to a.0 k.1)),
+      λ l. let b = from l.0 x l.2 in subst (λ y. In y (map f (filter t xs))) b.1 (map_in f (filter t xs) l.0 (filter_in t xs l.0 l.1 b.0)),
     );
     order = λ x y. (
       λ i.
-          let a = in_map_behind f (keep t xs) x y i in
-          let k = in_keep_behind t xs a.0 a.1 a.2 in
+          let a = in_map_behind f (filter t xs) x y i in
+          let k = in_filter_behind t xs a.0 a.1 a.2 in
           (a.0, a.1, k.0, subst (Left a.0) a.3 (to a.0 k.1), subst (Left a.1) a.4 (to a.1 k.2)),
       λ l.
           let b = from l.0 x l.3 in
           let c = from l.1 y l.4 in
-          subst (λ z. Behind z y (map f (keep t xs))) b.1 (subst (λ z. Behind (f l.0) z (map f (keep t xs))) c.1
-          (map_behind f (keep t xs) l.0 l.1 (keep_behind t xs l.0 l.1 l.2 b.0 c.0))),
+          subst (λ z. Behind z y (map f (filter t xs))) b.1 (subst (λ z. Behind (f l.0) z (map f (filter t xs))) c.1
+          (map_behind f (filter t xs) l.0 l.1 (filter_behind t xs l.0 l.1 l.2 b.0 c.0))),
     );
   }
 
 -- ---- assumptions
-took : (how : Ending) (k : ℕ) (a : Assumption) → (has (denied how a) k ≡ true) ↔ TookOther how k a
-took Committed k a = (λ e. e, λ e. e)
-took Aborted k a = (λ e. e, λ e. e)
-
 agrees : (how : Ending) (k : ℕ) (a : Assumption) → survives how k a ≡ true → TookOther how k a → ⊥
-agrees how k a e o = both_ways _ (not-true _ e) ((took how k a).1 o)
+agrees Committed k a e o = grind (arith, e, o)
+agrees Aborted k a e o = grind (arith, e, o)
 
 stays : (how : Ending) (k : ℕ) (a : Assumption) → (TookOther how k a → ⊥) → survives how k a ≡ true
-stays how k a n = elim (cases_Bool (has (denied how a) k)) [ inl e ↦ absurd (n ((took how k a).0 e)) | inr e ↦ ap not e ]
+stays Committed k a n = grind (arith, n)
+stays Aborted k a n = grind (arith, n)
 
 taken : (s k q : ℕ) → has (without s (single k)) q ≡ (has s q && not (eqb k q))
 taken s k q = has_without s (single k) q ∙ ap (λ b. has s q && not b) (has_single k q)
@@ -68,7 +67,7 @@ same_out k a b t = λ i. record { commits = record { mask = same_set (commits_of
 
 -- ---- the three kinds of records
 module _ (how : Ending) (k : ℕ) where
-  executions_left : (es : List Execution) → Leaves (LeftExecution how k) es (map (settled_execution k) (keep (λ e. not (eqb e.job k) && survives how k e.assumes) es))
+  executions_left : (es : List Execution) → Leaves (LeftExecution how k) es (map (settled_execution k) (filter (λ e. not (eqb e.job k) && survives how k e.assumes) es))
   executions_left = leaves _ (settled_execution k) (LeftExecution how k)
       (λ e t. let b = and_parts _ _ t in record {
         other = eqb-false _ _ (not-true _ b.0);
@@ -90,7 +89,7 @@ module _ (how : Ending) (k : ℕ) where
         },
       ))
 
-  versions_left : (vs : List Version) → Leaves (LeftVersion how k) vs (map (settled_version k) (keep (λ v. not (eqb v.maker k) && survives how k v.assumes) vs))
+  versions_left : (vs : List Version) → Leaves (LeftVersion how k) vs (map (settled_version k) (filter (λ v. not (eqb v.maker k) && survives how k v.assumes) vs))
   versions_left = leaves _ (settled_version k) (LeftVersion how k)
       (λ v t. let b = and_parts _ _ t in record {
         other = eqb-false _ _ (not-true _ b.0);
@@ -110,12 +109,8 @@ module _ (how : Ending) (k : ℕ) where
         },
       ))
 
-same_map : {A : Type 0} (xs : List A) → map (λ x. x) xs ≡ xs
-same_map [] = refl
-same_map (x ∷ xs) = ap (λ ys. x ∷ ys) (same_map xs)
-
-holdings_left : (k : ℕ) (hs : List Holding) → Leaves (LeftHolding k) hs (keep (λ h. not (eqb h.job k)) hs)
-holdings_left k hs = subst (Leaves (LeftHolding k) hs) (same_map _) (leaves (λ h. not (eqb h.job k)) (λ h. h) (LeftHolding k)
+holdings_left : (k : ℕ) (hs : List Holding) → Leaves (LeftHolding k) hs (filter (λ h. not (eqb h.job k)) hs)
+holdings_left k hs = subst (Leaves (LeftHolding k) hs) (map-id _) (leaves (λ h. not (eqb h.job k)) (λ h. h) (LeftHolding k)
     (λ h t. record { other = eqb-false _ _ (not-true _ t); same = refl })
     (λ g h l. (ap not (ne_eqb _ _ l.other), sym l.same))
     hs)

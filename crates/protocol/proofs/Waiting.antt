@@ -1,25 +1,22 @@
 -- The set of jobs that a job waits for is the relation of specs/Waiting, and how a lock, an image and an end change it.
-use Rattle.std.proofs.Common.{◌≡◌, ℕ, Bool, true, cond, not, ◌&&◌, eqb, ◌⊎◌, List, [], ◌∷◌, ◌++◌, map, sym, refl, ap, ◌∙◌, subst, inl, inr}
-use Rattle.std.proofs.lemmas.Bool.{eqb-true, eqb-false, eq-eqb, ne_eqb, and_parts, and_from, not-true}
+use Rattle.std.proofs.Common.{◌≡◌, ℕ, Bool, true, cond, not, ◌&&◌, eqb, ◌⊎◌, List, [], ◌∷◌, ◌++◌, map, sym, refl, ap, ◌∙◌, subst, inl, inr, arith}
+use Rattle.std.specs.Prelude.{filter}
+use Rattle.std.specs.List.{list_any}
+use Rattle.std.proofs.lemmas.Bool.{eqb-true, eqb-false, ne_eqb, and_parts, not-true}
 use Rattle.protocol.specs.declared.holdings.Holding.{Holding}
 use Rattle.protocol.specs.Holdings.{clash, holds, turn, jobs_of, waits, new_waits}
-use Rattle.protocol.specs.Lists.{keep, any, In, Behind}
+use Rattle.protocol.specs.Lists.{In, Behind}
 use Rattle.protocol.specs.Places.{has, single}
 use Rattle.protocol.specs.Waiting.{WaitsFor}
 use Rattle.protocol.proofs.Membership.{none_in, join_left, join_right, join_cases, in_single, single_in, cond_in, in_cond}
 use Rattle.protocol.proofs.HoldingStates.{reading_turn}
-use Rattle.protocol.proofs.Lists.{any_in, in_any, behind_append, behind_last, push_cases, in_keep_behind, keep_behind, in_map_behind, map_behind}
+use Rattle.protocol.proofs.Lists.{any_in, in_any, behind_append, behind_last, push_cases, in_filter_behind, filter_behind, in_map_behind, map_behind}
 
 -- who is among the jobs of some holdings has such a holding, and the other way round
 pub jobs_in : (t : Holding → Bool) (hs : List Holding) (q : ℕ) → has (jobs_of t hs) q ≡ true → (h : Holding) × In h hs × (t h ≡ true) × (h.job ≡ q)
 unfolding jobs_of
 jobs_in t [] q e = none_in q e
-jobs_in t (h ∷ hs) q e = go (join_cases _ _ q e) (jobs_in t hs q)
-  where
-    go : (has (cond (t h) (single h.job) 0) q ≡ true) ⊎ (has (jobs_of t hs) q ≡ true)
-        → (has (jobs_of t hs) q ≡ true → (g : Holding) × In g hs × (t g ≡ true) × (g.job ≡ q)) → (g : Holding) × In g (h ∷ hs) × (t g ≡ true) × (g.job ≡ q)
-    go (inl i) rec = let c = cond_in (t h) _ q i in (h, inl refl, c.0, in_single _ _ c.1)
-    go (inr i) rec = let r = rec i in (r.0, inr r.1, r.2, r.3)
+jobs_in t (h ∷ hs) q e = grind (arith, join_cases _ _ q e, cond_in (t h) (single h.job) q, in_single h.job q, jobs_in t hs q)
 
 pub in_jobs : (t : Holding → Bool) (hs : List Holding) (h : Holding) → In h hs → t h ≡ true → has (jobs_of t hs) h.job ≡ true
 unfolding jobs_of
@@ -27,16 +24,20 @@ in_jobs t [] h i e = absurd i
 in_jobs t (g ∷ hs) h (inl p) e = join_left _ _ _ (in_cond (t g) _ _ (ap t p ∙ e) (single_in _ _ (ap (λ x. x.job) p)))
 in_jobs t (g ∷ hs) h (inr i) e = join_right _ _ _ (in_jobs t hs h i e)
 
+-- where the two holdings stand in another list, in their order, there is the same wait
+moved : (hs gs : List Holding) (p q : ℕ) (w : WaitsFor hs p q) → Behind w.earlier w.later gs → WaitsFor gs p q
+moved hs gs p q w o = record { earlier = w.earlier; later = w.later; order = o; of = w.of; by = w.by; other = w.other; why = w.why }
+
 -- who is in the set is waited for, and the other way round
 pub waits_why : (hs : List Holding) (p q : ℕ) → has (waits hs p) q ≡ true → WaitsFor hs p q
 unfolding waits
 waits_why [] p q e = none_in q e
 waits_why (g ∷ hs) p q e = go (join_cases _ _ q e) (waits_why hs p q)
   where
-    go : (has (cond (not (eqb g.job p) && any (λ h. eqb h.job p && clash g h) hs) (single g.job) 0) q ≡ true) ⊎ (has (waits hs p) q ≡ true)
+    go : (has (cond (not (eqb g.job p) && list_any (λ h. eqb h.job p && clash g h) hs) (single g.job) 0) q ≡ true) ⊎ (has (waits hs p) q ≡ true)
         → (has (waits hs p) q ≡ true → WaitsFor hs p q) → WaitsFor (g ∷ hs) p q
     go (inl i) rec =
-        let c = cond_in (not (eqb g.job p) && any (λ h. eqb h.job p && clash g h) hs) _ q i in
+        let c = cond_in (not (eqb g.job p) && list_any (λ h. eqb h.job p && clash g h) hs) _ q i in
         let d = and_parts _ _ c.0 in
         let a = any_in (λ h. eqb h.job p && clash g h) hs d.1 in
         let b = and_parts _ _ a.2 in
@@ -50,9 +51,7 @@ waits_why (g ∷ hs) p q e = go (join_cases _ _ q e) (waits_why hs p q)
           other = λ e. eqb-false g.job p (not-true _ d.0) (same ∙ e);
           why = b.1;
         }
-    go (inr i) rec =
-        let w = rec i in
-        record { earlier = w.earlier; later = w.later; order = inr w.order; of = w.of; by = w.by; other = w.other; why = w.why }
+    go (inr i) rec = moved hs (g ∷ hs) p q (rec i) (inr (rec i).order)
 
 pub why_waits : (hs : List Holding) (p q : ℕ) → WaitsFor hs p q → has (waits hs p) q ≡ true
 unfolding waits
@@ -61,11 +60,8 @@ why_waits hs p q w = subst (λ x. has (waits hs p) x ≡ true) w.of (go hs w.ord
     go : (hs : List Holding) → Behind w.earlier w.later hs → has (waits hs p) w.earlier.job ≡ true
     go [] o = absurd o
     go (g ∷ hs) (inl o) =
-        let e = o.0 in
-        join_left _ _ _ (in_cond _ _ _
-        (and_from _ _ (ap not (ap (λ x. eqb x.job p) e ∙ ne_eqb _ _ (λ s. w.other (sym w.of ∙ s))))
-        (in_any (λ h. eqb h.job p && clash g h) hs w.later o.1 (and_from _ _ (eq-eqb _ _ w.by) (ap (λ x. clash x w.later) e ∙ w.why))))
-        (single_in _ _ (ap (λ x. x.job) e)))
+        let waited = in_any (λ h. eqb h.job p && clash g h) hs w.later o.1 (grind (arith, w.by, w.why, o.0)) in
+        join_left _ _ _ (in_cond _ _ _ (grind (arith, waited, w.other, w.of, o.0)) (single_in _ _ (ap (λ x. x.job) o.0)))
     go (g ∷ hs) (inr o) = join_right _ _ _ (go hs o)
 
 -- ---- a new holding behind the others
@@ -73,22 +69,10 @@ pub waits_push : (hs : List Holding) (h : Holding) (p q : ℕ) → has (waits (h
 unfolding new_waits
 waits_push hs h p q e =
     let w = waits_why (hs ++ h ∷ []) p q e in
-    elim (push_cases hs h w.earlier w.later w.order) [
-      | inl o ↦ inl (why_waits hs p q (record { earlier = w.earlier; later = w.later; order = o; of = w.of; by = w.by; other = w.other; why = w.why }))
-      | inr o ↦
-          let job : p ≡ h.job = sym w.by ∙ sym (ap (λ x. x.job) o.1) in
-          let n : w.earlier.job ≡ h.job → ⊥ = λ s. w.other (sym w.of ∙ s ∙ sym job) in
-          inr (
-            job,
-            subst (λ x. has (new_waits hs h) x ≡ true) w.of
-                (in_jobs _ hs w.earlier o.0 (and_from _ _ (ap not (ne_eqb _ _ n)) (ap (clash w.earlier) o.1 ∙ w.why))),
-          )
-    ]
+    grind (arith, push_cases hs h w.earlier w.later w.order, why_waits hs p q, w.of, w.by, w.other, w.why, in_jobs (λ g. not (eqb g.job h.job) && clash g h) hs w.earlier)
 
 pub waits_more : (hs : List Holding) (h : Holding) (p q : ℕ) → has (waits hs p) q ≡ true → has (waits (hs ++ h ∷ []) p) q ≡ true
-waits_more hs h p q e =
-    let w = waits_why hs p q e in
-    why_waits _ p q (record { earlier = w.earlier; later = w.later; order = behind_append hs _ _ _ w.order; of = w.of; by = w.by; other = w.other; why = w.why })
+waits_more hs h p q e = let w = waits_why hs p q e in why_waits _ p q (moved hs _ p q w (behind_append hs _ _ _ w.order))
 
 pub new_waits_wait : (hs : List Holding) (h : Holding) (q : ℕ) → has (new_waits hs h) q ≡ true → has (waits (hs ++ h ∷ []) h.job) q ≡ true
 unfolding new_waits
@@ -139,23 +123,12 @@ turn_waits p o hs a b e =
 -- ---- the holdings of job k are removed
 -- the holdings of all jobs but k
 abbrev pub rest : ℕ → List Holding → List Holding
-rest k hs = keep (λ h. not (eqb h.job k)) hs
+rest k hs = filter (λ h. not (eqb h.job k)) hs
 
 pub waits_rest : (k : ℕ) (hs : List Holding) (a b : ℕ) → has (waits (rest k hs) a) b ≡ true → has (waits hs a) b ≡ true
-waits_rest k hs a b e =
-    let w = waits_why (rest k hs) a b e in
-    let t = in_keep_behind (λ h. not (eqb h.job k)) hs _ _ w.order in
-    why_waits hs a b (record { earlier = w.earlier; later = w.later; order = t.0; of = w.of; by = w.by; other = w.other; why = w.why })
+waits_rest k hs a b e = let w = waits_why (rest k hs) a b e in why_waits hs a b (moved _ hs a b w (in_filter_behind (λ h. not (eqb h.job k)) hs _ _ w.order).0)
 
 pub rest_waits : (k : ℕ) (hs : List Holding) (a b : ℕ) → (a ≡ k → ⊥) → (b ≡ k → ⊥) → has (waits hs a) b ≡ true → has (waits (rest k hs) a) b ≡ true
 rest_waits k hs a b n m e =
     let w = waits_why hs a b e in
-    why_waits _ a b (record {
-      earlier = w.earlier;
-      later = w.later;
-      order = keep_behind (λ h. not (eqb h.job k)) hs _ _ w.order (ap not (ne_eqb _ _ (λ s. m (sym w.of ∙ s)))) (ap not (ne_eqb _ _ (λ s. n (sym w.by ∙ s))));
-      of = w.of;
-      by = w.by;
-      other = w.other;
-      why = w.why;
-    })
+    why_waits _ a b (moved hs _ a b w (filter_behind (λ h. not (eqb h.job k)) hs _ _ w.order (ap not (ne_eqb _ _ (λ s. m (sym w.of ∙ s)))) (ap not (ne_eqb _ _ (λ s. n (sym w.by ∙ s))))))

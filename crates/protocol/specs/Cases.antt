@@ -21,10 +21,12 @@ pub data Line : Type 0 where
   says : Call → ℕ → Line
   runs : ℕ → ℕ → Line
 
+-- lines that are to follow from a new book with this robustness
 pub record Case : Type 0 where
   pub robustness : ℕ
   pub lines : List Line
 
+-- a job begins at place p
 abbrev begins : ℕ → Line
 begins p = says (Begin p 1 1) 0
 
@@ -32,13 +34,15 @@ begins p = says (Begin p 1 1) 0
 abbrev reads : ℕ → ℕ → ℕ → Line
 reads p o n = says (Lock p o Read) n
 
+-- the same, to write
 abbrev writes : ℕ → ℕ → ℕ → Line
 writes p o n = says (Lock p o Write) n
 
--- job p ends, or would, and is answered n
+-- job p commits, or would, and is answered n
 abbrev commits : ℕ → ℕ → Line
 commits p n = says (Commit p) n
 
+-- job p aborts, or would, and is answered n
 abbrev aborts : ℕ → ℕ → Line
 aborts p n = says (Abort p) n
 
@@ -84,6 +88,7 @@ ring = record { robustness = 1; lines = (begins 0 ∷ images 0 0) ++ (begins 1 �
 abbrev reader_first : (ℕ → ℕ → Line) → Case
 reader_first ends = record { robustness = 1; lines = begins 0 ∷ reads 0 0 0 ∷ begins 1 ∷ writes 1 0 0 ∷ runs 1 1 ∷ says (Image 1 0) 0 ∷ commits 1 18 ∷ ends 0 0 ∷ runs 1 1 ∷ commits 1 0 ∷ [] }
 
+-- the whole table
 abbrev pub cases : List Case
 cases =
     fourth_has 120 8 ∷ fourth_has 0 1 ∷ fourth_has 1 4 ∷ fourth_has 2 7 ∷ sixth_is_too_much ∷ no_mixture Read ∷ no_mixture Write
@@ -96,6 +101,7 @@ follows r m [] = true
 follows r m (says c n ∷ ls) = answer_number (answer r m c) == n && follows r (step r m c) ls
 follows r m (runs p n ∷ ls) = length (executions_of p m) == n && follows r m ls
 
+-- each case holds, from a new book with limit 16 over these first values
 unfoldable pub agree : Rule → List ℕ → List Case → Bool
 unfolding follows new
 agree r first [] = true

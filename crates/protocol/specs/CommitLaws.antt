@@ -1,12 +1,11 @@
 -- What a job has when it commits, and what is then in the store.
-use Rattle.std.specs.Prelude.{◌≡◌, ℕ, false, ◌&&◌, List, [], ◌∷◌, length, None, ◌==◌, slice_index, slice_index_or}
+use Rattle.std.specs.Prelude.{◌≡◌, ℕ, false, ◌&&◌, List, [], ◌∷◌, length, None, ◌==◌, slice_index, slice_index_or, filter}
 use Rattle.terms.specs.declared.calls.Call.{Call}
 use Rattle.terms.specs.declared.calls.Call.TheVariants.{Commit}
 use Rattle.terms.specs.Rule.{Rule}
 use Rattle.protocol.specs.declared.assumptions.Execution.{Execution}
 use Rattle.protocol.specs.declared.assumptions.Version.{Version}
 use Rattle.protocol.specs.Assumptions.{commits_of, aborts_of}
-use Rattle.protocol.specs.Lists.{keep}
 use Rattle.protocol.specs.Model.{Model, new, executions_of}
 use Rattle.protocol.specs.PairingLaws.{Makes}
 use Rattle.protocol.specs.Places.{has}
@@ -14,7 +13,7 @@ use Rattle.protocol.specs.Step.{answer, step, run}
 
 -- the versions of object o by job p
 abbrev pub versions_by : ℕ → ℕ → Model → List Version
-versions_by p o m = keep (λ v. (v.maker == p) && v.object == o) m.versions
+versions_by p o m = filter (λ v. (v.maker == p) && v.object == o) m.versions
 
 -- the one execution, which takes nothing of any job
 pub record OneExecution (m : Model) (p : ℕ) : Type 0 where

@@ -1,27 +1,27 @@
 -- Holdings: who holds what, who makes what, who waits for whom. Holdings stand in the order of locking.
 use Rattle.std.specs.Prelude.{ℕ, zero, suc, Bool, true, false, cond, not, ◌&&◌, List, [], ◌∷◌, ◌==◌}
+use Rattle.std.specs.List.{list_any}
 use Rattle.terms.specs.declared.modes.Mode.{Mode}
 use Rattle.terms.specs.declared.modes.Mode.TheVariants.{Read, Write}
 use Rattle.protocol.specs.declared.holdings.HoldingState.{HoldingState}
 use Rattle.protocol.specs.declared.holdings.HoldingState.TheVariants.{Reading, Open, Turned}
 use Rattle.protocol.specs.declared.holdings.Holding.{Holding}
-use Rattle.protocol.specs.Lists.{any}
 use Rattle.protocol.specs.Places.{has, single, join}
 
+-- locked to read
 abbrev pub reading : HoldingState → Bool
 reading Reading = true
-reading Open = false
-reading Turned = false
+reading s = false
 
+-- locked to write, and not yet imaged
 abbrev pub opened : HoldingState → Bool
-opened Reading = false
 opened Open = true
-opened Turned = false
+opened s = false
 
+-- locked to write and imaged
 abbrev pub turned : HoldingState → Bool
-turned Reading = false
-turned Open = false
 turned Turned = true
+turned s = false
 
 -- how a holding begins
 abbrev pub begins : Mode → HoldingState
@@ -67,7 +67,7 @@ later_makers o p (h ∷ hs) = elim (holds p o h) [ true ↦ makers o hs | false 
 -- the jobs for which job p waits
 unfoldable pub waits : List Holding → ℕ → ℕ
 waits [] p = 0
-waits (g ∷ hs) p = join (cond (not (g.job == p) && any (λ h. (h.job == p) && clash g h) hs) (single g.job) 0) (waits hs p)
+waits (g ∷ hs) p = join (cond (not (g.job == p) && list_any (λ h. (h.job == p) && clash g h) hs) (single g.job) 0) (waits hs p)
 
 -- the jobs for which the job of a new holding h waits on its account
 unfoldable pub new_waits : List Holding → Holding → ℕ
@@ -79,6 +79,7 @@ unfoldable pub spread : (ℕ → ℕ) → ℕ → ℕ → ℕ
 spread w zero set = set
 spread w (suc n) set = join (cond (has set n) (w n) 0) (spread w n set)
 
+-- the set after n such steps over the sixteen places
 unfoldable pub rounds : (ℕ → ℕ) → ℕ → ℕ → ℕ
 unfolding spread
 rounds w zero set = set

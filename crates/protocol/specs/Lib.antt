@@ -2,6 +2,7 @@ pub mod Lists
 pub mod Places
 pub mod Refusals
 pub mod Assumptions
+pub mod Empty
 pub mod Holdings
 pub mod Waiting
 pub mod Ranks

@@ -1,12 +1,12 @@
 -- The book as plain lists.
-use Rattle.std.specs.Prelude.{ℕ, Bool, List, [], length, replicate, Some, None, Option, ◌==◌, slice_index_or}
+use Rattle.std.specs.Prelude.{ℕ, Bool, List, [], length, replicate, Some, None, Option, ◌==◌, slice_index_or, filter}
 use Rattle.protocol.specs.declared.assumptions.Execution.{Execution}
 use Rattle.protocol.specs.declared.assumptions.Version.{Version}
 use Rattle.protocol.specs.declared.holdings.Holding.{Holding}
 use Rattle.protocol.specs.declared.jobs.Job.{Job}
 use Rattle.protocol.specs.Holdings.{held_by}
-use Rattle.protocol.specs.Lists.{keep}
 
+-- the state of a book
 pub record Model : Type 0 where
   -- how many jobs an execution may ever have taken to abort
   pub robustness : ℕ
@@ -31,17 +31,19 @@ new robustness limit values = record { robustness = robustness; limit = limit; v
 abbrev pub job_at : Model → ℕ → Option Job
 job_at m p = slice_index_or m.jobs p None
 
+-- the kind of a job, or 0
 abbrev pub kind_of : Option Job → ℕ
 kind_of None = 0
 kind_of (Some j) = j.kind
 
+-- the argument of a job, or 0
 abbrev pub argument_of : Option Job → ℕ
 argument_of None = 0
 argument_of (Some j) = j.argument
 
 -- how many objects job p holds
 abbrev pub holding_count : Model → ℕ → ℕ
-holding_count m p = length (keep (held_by p) m.holdings)
+holding_count m p = length (filter (held_by p) m.holdings)
 
 -- e is an execution of job p
 abbrev pub names : ℕ → Execution → Bool
@@ -49,4 +51,4 @@ names p e = e.job == p
 
 -- the executions of job p, in order
 abbrev pub executions_of : ℕ → Model → List Execution
-executions_of p m = keep (names p) m.executions
+executions_of p m = filter (names p) m.executions

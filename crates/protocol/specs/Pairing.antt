@@ -1,5 +1,5 @@
 -- What an object offers to a job that locks it, and which pairs of execution and offer are kept.
-use Rattle.std.specs.Prelude.{ℕ, ◌+◌, Bool, ◌&&◌, List, ◌∷◌, map, ◌==◌, nat_le, slice_index, slice_set}
+use Rattle.std.specs.Prelude.{ℕ, ◌+◌, Bool, ◌&&◌, List, ◌∷◌, map, ◌==◌, nat_le, slice_index, slice_set, flat_map, filter}
 use Rattle.terms.specs.declared.modes.Mode.{Mode}
 use Rattle.terms.specs.Rule.{Rule}
 use Rattle.protocol.specs.declared.assumptions.Execution.{Execution}
@@ -8,7 +8,6 @@ use Rattle.protocol.specs.declared.assumptions.Version.{Version}
 use Rattle.protocol.specs.declared.holdings.Holding.{Holding}
 use Rattle.protocol.specs.Assumptions.{commits_of, aborts_of, assume}
 use Rattle.protocol.specs.Holdings.{makers, later_makers}
-use Rattle.protocol.specs.Lists.{keep, each}
 use Rattle.protocol.specs.Model.{Model, job_at, kind_of, argument_of, holding_count, executions_of}
 use Rattle.protocol.specs.Places.{join, without, disjoint, size}
 
@@ -26,7 +25,7 @@ stored_offer m o = record { value = slice_index m.values o; assumes = assume 0 (
 
 -- what object o offers, in order: the stored value, then its versions
 unfoldable pub offers : Model → ℕ → List Offer
-offers m o = stored_offer m o ∷ map (offer m.holdings o) (keep (of_object o) m.versions)
+offers m o = stored_offer m o ∷ map (offer m.holdings o) (filter (of_object o) m.versions)
 
 -- the execution e after it met the offer x: the sets are joined, the tally grows by the jobs newly taken to abort; take makes the working value, and
 -- its job has held n objects
@@ -45,7 +44,7 @@ is_kept robustness e = disjoint (commits_of e.assumes) (aborts_of e.assumes) && 
 
 -- the kept pairs of each execution with each offer, in order
 unfoldable pub pairs : ℕ → (Execution → Offer → Execution) → List Offer → List Execution → List Execution
-pairs robustness f xs es = each (λ e. keep (is_kept robustness) (map (f e) xs)) es
+pairs robustness f xs es = flat_map (λ e. filter (is_kept robustness) (map (f e) xs)) es
 
 -- an execution of job p meets an offer of object o
 abbrev pub pairing : Rule → Model → ℕ → ℕ → Mode → Execution → Offer → Execution

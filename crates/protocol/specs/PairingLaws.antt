@@ -1,5 +1,5 @@
 -- What an object offers, and which executions a lock leaves, told by the members of their sets.
-use Rattle.std.specs.Prelude.{◌≡◌, ℕ, ◌+◌, ◌≤◌, Bool, true, false, not, ◌&&◌, ◌||◌, ◌⊎◌, ◌↔◌, List, map, length, None, ◌≢◌, slice_set}
+use Rattle.std.specs.Prelude.{◌≡◌, ℕ, ◌+◌, ◌≤◌, Bool, true, false, not, ◌&&◌, ◌||◌, ◌⊎◌, ◌↔◌, List, map, length, None, ◌≢◌, slice_set, flat_map, filter}
 use Rattle.terms.specs.declared.calls.Call.TheVariants.{Lock}
 use Rattle.terms.specs.declared.modes.Mode.{Mode}
 use Rattle.terms.specs.Rule.{Rule}
@@ -9,7 +9,7 @@ use Rattle.protocol.specs.declared.assumptions.Version.{Version}
 use Rattle.protocol.specs.declared.holdings.Holding.{Holding}
 use Rattle.protocol.specs.Assumptions.{commits_of, aborts_of}
 use Rattle.protocol.specs.Holdings.{turned}
-use Rattle.protocol.specs.Lists.{keep, each, In, Behind}
+use Rattle.protocol.specs.Lists.{In, Behind}
 use Rattle.protocol.specs.Model.{Model, job_at, kind_of, argument_of, holding_count, executions_of}
 use Rattle.protocol.specs.Pairing.{offer, stored_offer, offers, pairing, is_kept}
 use Rattle.protocol.specs.Places.{has}
@@ -35,6 +35,7 @@ pub record MakesLater (hs : List Holding) (o p q : ℕ) : Type 0 where
   pub same : later.object ≡ o
   pub turns : turned later.state ≡ true
 
+-- what each offer takes to commit and to abort
 pub record OfferLaws : Type 0 where
   -- the stored value takes no job to commit, and every maker to abort
   pub stored_commits : (m : Model) (o k : ℕ) → has (commits_of (stored_offer m o).assumes) k ≡ false
@@ -55,7 +56,7 @@ pub record Meets (r : Rule) (m : Model) (p o : ℕ) (mode : Mode) (e : Execution
   pub commits : (k : ℕ) → has (commits_of x.assumes) k ≡ (has (commits_of e.assumes) k || has (commits_of f.assumes) k)
   pub aborts : (k : ℕ) → has (aborts_of x.assumes) k ≡ (has (aborts_of e.assumes) k || has (aborts_of f.assumes) k)
   -- the tally grows by the number of jobs newly taken to abort
-  pub counts : x.tally ≡ e.tally + length (keep (newly e f) places)
+  pub counts : x.tally ≡ e.tally + length (filter (newly e f) places)
   pub works : x.work ≡ r.take (kind_of (job_at m p)) (argument_of (job_at m p)) e.work o mode f.value
   -- the value met stands behind those met before
   pub meets : x.met ≡ slice_set e.met (holding_count m p) f.value
@@ -76,7 +77,7 @@ pub record LockLaws (r : Rule) (m : Model) (p o : ℕ) (mode : Mode) (n : Model)
   pub inner : (e : Execution) (f g : Offer) (x y : Execution) → In e (executions_of p m) → Behind f g (offers m o)
       → Meets r m p o mode e f x → Stays m.robustness x → Meets r m p o mode e g y → Stays m.robustness y → Behind x y (executions_of p n)
   -- so the list is: for each execution each offer, in order, and of these pairs those that stay
-  pub listed : executions_of p n ≡ keep (is_kept m.robustness) (each (λ e. map (pairing r m p o mode e) (offers m o)) (executions_of p m))
+  pub listed : executions_of p n ≡ filter (is_kept m.robustness) (flat_map (λ e. map (pairing r m p o mode e) (offers m o)) (executions_of p m))
   -- the executions of the other jobs are as they were
   pub others : (q : ℕ) → (q ≢ p) → executions_of q n ≡ executions_of q m
 

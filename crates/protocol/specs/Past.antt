@@ -25,5 +25,6 @@ place_of (Image p o) = p
 place_of (Commit p) = p
 place_of (Abort p) = p
 
+-- the call names place p
 abbrev pub is_at : ℕ → Call → Bool
 is_at p c = place_of c == p

@@ -1,9 +1,8 @@
 -- The plain run: the committed jobs alone, one after another, in the order of their commits. It is fed a past and nothing else of the book.
-use Rattle.std.specs.Prelude.{ℕ, not, List, [], ◌∷◌, ◌++◌, Some, None, slice_index, slice_set}
+use Rattle.std.specs.Prelude.{ℕ, not, List, [], ◌∷◌, ◌++◌, Some, None, slice_index, slice_set, filter}
 use Rattle.terms.specs.declared.calls.Call.{Call}
 use Rattle.terms.specs.declared.calls.Call.TheVariants.{Begin, Lock, Image, Commit, Abort}
 use Rattle.terms.specs.Rule.{Rule}
-use Rattle.protocol.specs.Lists.{keep}
 use Rattle.protocol.specs.Past.{Event, is_at}
 
 -- one job at work: its kind, its argument, its working value and the list of values
@@ -40,8 +39,8 @@ abbrev pub plain_one : Rule → Plain → Call → Plain
 plain_one r s (Begin p k a) = record { values = s.values; pending = s.pending ++ Begin p k a ∷ [] }
 plain_one r s (Lock p o mode) = record { values = s.values; pending = s.pending ++ Lock p o mode ∷ [] }
 plain_one r s (Image p o) = record { values = s.values; pending = s.pending ++ Image p o ∷ [] }
-plain_one r s (Commit p) = record { values = (play r (fresh s.values) (keep (is_at p) s.pending)).values; pending = keep (λ c. not (is_at p c)) s.pending }
-plain_one r s (Abort p) = record { values = s.values; pending = keep (λ c. not (is_at p c)) s.pending }
+plain_one r s (Commit p) = record { values = (play r (fresh s.values) (filter (is_at p) s.pending)).values; pending = filter (λ c. not (is_at p c)) s.pending }
+plain_one r s (Abort p) = record { values = s.values; pending = filter (λ c. not (is_at p c)) s.pending }
 
 -- refused calls do nothing
 unfoldable pub plain : Rule → Plain → List Event → Plain

@@ -1,5 +1,5 @@
 -- Why each call is refused, in plain words, in the order of the numbers.
-use Rattle.std.specs.Prelude.{◌≡◌, ℕ, ◌+◌, ◌<◌, ◌≤◌, Bool, true, ◌⊎◌, ◌↔◌, List, [], ◌∷◌, ◌++◌, length}
+use Rattle.std.specs.Prelude.{◌≡◌, ℕ, ◌+◌, ◌<◌, ◌≤◌, Bool, true, ◌⊎◌, ◌↔◌, List, [], ◌∷◌, ◌++◌, length, is_some}
 use Rattle.terms.specs.declared.calls.Call.{Call}
 use Rattle.terms.specs.declared.calls.Call.TheVariants.{Begin, Lock, Image, Commit, Abort}
 use Rattle.terms.specs.Rule.{Rule}
@@ -7,7 +7,7 @@ use Rattle.protocol.specs.declared.holdings.HoldingState.TheVariants.{Open}
 use Rattle.protocol.specs.declared.holdings.Holding.{Holding}
 use Rattle.protocol.specs.declared.refusals.Refusal.{Refusal}
 use Rattle.protocol.specs.Holdings.{locked}
-use Rattle.protocol.specs.Lists.{is_some, In}
+use Rattle.protocol.specs.Lists.{In}
 use Rattle.protocol.specs.Model.{Model, new, job_at, executions_of, holding_count}
 use Rattle.protocol.specs.Pairing.{kept_pairs}
 use Rattle.protocol.specs.Step.{new_refusals, refusals, run}
@@ -49,6 +49,7 @@ Tells [] (P ∷ Ps) = ⊥
 Tells (t ∷ ts) [] = ⊥
 Tells (t ∷ ts) (P ∷ Ps) = ((t.0 ≡ true) ↔ P) × Tells ts Ps
 
+-- the tests and the reasons agree
 pub record ReasonLaws : Type 0 where
   -- no book is made with a robustness above 120, or with a limit that is 0 or above 16
   pub of_new : (robustness limit : ℕ) → Tells (new_refusals robustness limit) ((120 < robustness) ∷ ((limit ≡ 0) ⊎ (16 < limit)) ∷ [])

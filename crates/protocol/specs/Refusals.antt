@@ -3,6 +3,7 @@ use Rattle.std.specs.Prelude.{ℕ}
 use Rattle.protocol.specs.declared.refusals.Refusal.{Refusal}
 use Rattle.protocol.specs.declared.refusals.Refusal.TheVariants.{RobustnessTooLarge, LimitOutOfRange, NoSuchPlace, PlaceTaken, UnknownKind, NoJob, LostJob, NoSuchObject, AlreadyHeld, TooManyHeld, OpenElsewhere, WouldWaitForItself, NoExecution, TooManyExecutions, NotOpen, TooManyVersions, HasOpen, Waits}
 
+-- the number that answers a refused call
 abbrev pub refusal_number : Refusal → ℕ
 -- a robustness over 120
 refusal_number RobustnessTooLarge = 1

@@ -12,6 +12,7 @@ pub record ComesToRely (h : History) (o i x : ℕ) : Type 0 where
   pub makes : Makes h.holdings o maker
   pub on : (x ≡ h.ids maker) ⊎ ((relies_on h.relied (h.ids maker) x ≡ true) × (has_ended h.ended x ≡ false) × (x ≢ i))
 
+-- what each accepted call does to relying and ending
 pub record RelyingLaws : Type 0 where
   pub lock : (h : History) (p o : ℕ) (mode : Mode) (i x : ℕ)
       → (relies_on (history_one h (Lock p o mode)).relied i x ≡ true) ↔ ((relies_on h.relied i x ≡ true) ⊎ ((i ≡ h.ids p) × ComesToRely h o i x))

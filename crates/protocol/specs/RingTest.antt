@@ -17,6 +17,7 @@ NoRing hs = (p : ℕ) → WaitsThrough hs p p → ⊥
 abbrev pub OfPlaces : List Holding → Type 0
 OfPlaces hs = (h : Holding) → In h hs → h.job < 16
 
+-- the test is exact, and no ring ever comes to be
 pub record RingTest : Type 0 where
   -- where there is no ring, the test tells whether by the new holding, behind the others, its job would wait for itself
   pub exact : (hs : List Holding) (h : Holding) → OfPlaces hs → NoRing hs → (would_ring hs h ≡ true) ↔ WaitsThrough (hs ++ h ∷ []) h.job h.job

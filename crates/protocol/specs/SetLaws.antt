@@ -1,6 +1,5 @@
 -- The laws of sets of places, told by their members.
-use Rattle.std.specs.Prelude.{◌≡◌, ℕ, ◌+◌, ◌≤◌, true, false, not, ◌&&◌, ◌||◌, ◌↔◌, List, [], ◌∷◌, length, ◌==◌, ◌≢◌, nat_lt}
-use Rattle.protocol.specs.Lists.{keep}
+use Rattle.std.specs.Prelude.{◌≡◌, ℕ, ◌+◌, ◌≤◌, true, false, not, ◌&&◌, ◌||◌, ◌↔◌, List, [], ◌∷◌, length, ◌==◌, ◌≢◌, nat_lt, filter}
 use Rattle.protocol.specs.Places.{has, placed, single, join, without, disjoint, size}
 
 -- the sixteen places
@@ -15,6 +14,7 @@ Part a b = (k : ℕ) → has a k ≡ true → has b k ≡ true
 abbrev pub Apart : ℕ → ℕ → Type 0
 Apart a b = (k : ℕ) → has a k ≡ true → has b k ≢ true
 
+-- what each word of sets means for their members
 pub record SetLaws : Type 0 where
   -- sets with the same members are the same
   pub same : (a b : ℕ) → ((k : ℕ) → has a k ≡ has b k) → a ≡ b
@@ -31,7 +31,7 @@ pub record SetLaws : Type 0 where
   -- sets are disjoint exactly when they have no common member
   pub apart : (a b : ℕ) → (disjoint a b ≡ true) ↔ Apart a b
   -- the size is the number of places that are in the set
-  pub counted : (a : ℕ) → size a ≡ length (keep (has a) places)
+  pub counted : (a : ℕ) → size a ≡ length (filter (has a) places)
   -- a join is as large as the one and what the other adds
   pub size_joined : (a b : ℕ) → size (join a b) ≡ size a + size (without b a)
   -- a part is at most as large as the whole

@@ -1,12 +1,11 @@
 -- Settling: what becomes of the records once a job has ended.
-use Rattle.std.specs.Prelude.{ℕ, Bool, not, ◌&&◌, List, map, None, ◌==◌, slice_set}
+use Rattle.std.specs.Prelude.{ℕ, Bool, not, ◌&&◌, List, map, None, ◌==◌, slice_set, filter}
 use Rattle.protocol.specs.declared.assumptions.Assumption.{Assumption}
 use Rattle.protocol.specs.declared.assumptions.Execution.{Execution}
 use Rattle.protocol.specs.declared.assumptions.Version.{Version}
 use Rattle.protocol.specs.declared.jobs.Ending.{Ending}
 use Rattle.protocol.specs.declared.jobs.Ending.TheVariants.{Committed, Aborted}
 use Rattle.protocol.specs.Assumptions.{commits_of, aborts_of, assume}
-use Rattle.protocol.specs.Lists.{keep}
 use Rattle.protocol.specs.Model.{Model}
 use Rattle.protocol.specs.Places.{has, single, without}
 
@@ -23,9 +22,11 @@ survives how k a = not (has (denied how a) k)
 abbrev pub settled : ℕ → Assumption → Assumption
 settled k a = assume (without (commits_of a) (single k)) (without (aborts_of a) (single k))
 
+-- an execution that forgets job k
 abbrev pub settled_execution : ℕ → Execution → Execution
 settled_execution k e = record { job = e.job; assumes = settled k e.assumes; work = e.work; tally = e.tally; met = e.met }
 
+-- a version that forgets job k
 abbrev pub settled_version : ℕ → Version → Version
 settled_version k v = record { object = v.object; maker = v.maker; value = v.value; assumes = settled k v.assumes }
 
@@ -37,7 +38,7 @@ settle how k values m = record {
   limit = m.limit;
   values = values;
   jobs = slice_set m.jobs k None;
-  holdings = keep (λ h. not (h.job == k)) m.holdings;
-  executions = map (settled_execution k) (keep (λ e. not (e.job == k) && survives how k e.assumes) m.executions);
-  versions = map (settled_version k) (keep (λ v. not (v.maker == k) && survives how k v.assumes) m.versions);
+  holdings = filter (λ h. not (h.job == k)) m.holdings;
+  executions = map (settled_execution k) (filter (λ e. not (e.job == k) && survives how k e.assumes) m.executions);
+  versions = map (settled_version k) (filter (λ v. not (v.maker == k) && survives how k v.assumes) m.versions);
 }

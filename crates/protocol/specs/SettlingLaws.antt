@@ -61,6 +61,7 @@ pub record Settled (how : Ending) (k : ℕ) (m n : Model) : Type 0 where
   pub ended : job_at n k ≡ None
   pub others : (q : ℕ) → (q ≢ k) → job_at n q ≡ job_at m q
 
+-- both endings leave what they should
 pub record SettlingLaws : Type 0 where
   pub commit : (r : Rule) (m : Model) (p : ℕ) → answer r m (Commit p) ≡ None → Settled Committed p m (step r m (Commit p))
   pub abort : (r : Rule) (m : Model) (p : ℕ) → answer r m (Abort p) ≡ None → Settled Aborted p m (step r m (Abort p))

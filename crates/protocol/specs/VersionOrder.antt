@@ -1,5 +1,6 @@
 -- In which order the versions of an object stand.
-use Rattle.std.specs.Prelude.{◌≡◌, ℕ, true, ◌||◌, List, [], ◌∷◌, ◌++◌, None, ◌==◌, ◌≢◌, slice_index}
+use Rattle.std.specs.Prelude.{◌≡◌, ℕ, true, ◌||◌, List, ◌++◌, None, ◌==◌, ◌≢◌, slice_index}
+use Rattle.std.specs.List.{AllZip}
 use Rattle.terms.specs.declared.calls.Call.{Call}
 use Rattle.terms.specs.declared.calls.Call.TheVariants.{Image}
 use Rattle.terms.specs.Rule.{Rule}
@@ -32,17 +33,11 @@ pub record MakesVersion (r : Rule) (m : Model) (p o : ℕ) (e : Execution) (v : 
   pub commits : (k : ℕ) → has (commits_of v.assumes) k ≡ (has (commits_of e.assumes) k || p == k)
   pub aborts : (k : ℕ) → has (aborts_of v.assumes) k ≡ has (aborts_of e.assumes) k
 
--- the lists are of one length, and R is between those at the same place
-abbrev pub EachToEach : {A B : Type 0} → (A → B → Type 0) → List A → List B → Type 0
-EachToEach R [] [] = Unit {0}
-EachToEach R [] (y ∷ ys) = ⊥
-EachToEach R (x ∷ xs) [] = ⊥
-EachToEach R (x ∷ xs) (y ∷ ys) = R x y × EachToEach R xs ys
-
+-- the order of versions, and which ones an image adds
 pub record VersionOrder : Type 0 where
   -- after every list of calls, versions of one object by two makers stand in the order in which these locked it
   pub makers : (r : Rule) (robustness limit : ℕ) (first : List ℕ) (cs : List Call) (v w : Version) → Behind v w (run r (new robustness limit first) cs).versions
       → v.object ≡ w.object → (v.maker ≢ w.maker) → LockedBefore (run r (new robustness limit first) cs).holdings v.object v.maker w.maker
   -- an image puts behind the versions one for each execution of the job, in their order
   pub executions : (r : Rule) (m : Model) (p o : ℕ) → answer r m (Image p o) ≡ None
-      → (vs : List Version) × ((step r m (Image p o)).versions ≡ m.versions ++ vs) × EachToEach (MakesVersion r m p o) (executions_of p m) vs
+      → (vs : List Version) × ((step r m (Image p o)).versions ≡ m.versions ++ vs) × AllZip (MakesVersion r m p o) (executions_of p m) vs

@@ -10,6 +10,7 @@ use Rattle.protocol.specs.Places.{has}
 use Rattle.protocol.specs.Step.{answer}
 use Rattle.protocol.specs.Waiting.{WaitsFor}
 
+-- clashing and waiting, as sets and as relations
 pub record WaitingLaws : Type 0 where
   -- two holdings clash if they are of one object and not both are to read
   pub clashes : (g h : Holding) → (clash g h ≡ true) ↔ ((g.object ≡ h.object) × (g.state ≡ Reading → h.state ≢ Reading))

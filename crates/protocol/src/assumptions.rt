@@ -1,8 +1,9 @@
 // What is taken of how running jobs will end, and the records that rest on it.
+// Each has its EMPTY as a const of its own: a table of fixed memory begins as `[EMPTY; 256]`, and no caller would name such a const through a trait.
 use super::places::PlaceSet;
 
 // A guess: which running jobs will commit, and which will abort.
-#[derive(Clone, Copy)]
+#[derive(Clone, Copy, PartialEq, Eq, Debug)]
 pub struct Assumption {
     pub commits: PlaceSet,
     pub aborts: PlaceSet,
@@ -16,14 +17,14 @@ impl Assumption {
 }
 
 // One of the ways in which a job may have gone so far.
-#[derive(Clone, Copy)]
+#[derive(Clone, Copy, PartialEq, Eq, Debug)]
 pub struct Execution {
     pub job: u8,
     pub assumes: Assumption,
     pub work: u64,
     // on how many jobs' abort it has ever counted, whether they still run or not
     pub tally: u8,
-    // the value met at each object that the job holds, in the order of locking
+    // the value met at each object that the job holds, in the order of locking; an array, for all executions have one size
     pub met: [u64; 8],
 }
 
@@ -38,7 +39,7 @@ impl Execution {
 }
 
 // A value that a running job would give an object.
-#[derive(Clone, Copy)]
+#[derive(Clone, Copy, PartialEq, Eq, Debug)]
 pub struct Version {
     pub object: u64,
     pub maker: u8,
@@ -56,7 +57,7 @@ impl Version {
 }
 
 // A value that a job may meet where it locks an object, and what it then takes.
-#[derive(Clone, Copy)]
+#[derive(Clone, Copy, PartialEq, Eq, Debug)]
 pub struct Offer {
     pub value: u64,
     pub assumes: Assumption,

@@ -1,5 +1,5 @@
 // What a job holds.
-#[derive(Clone, Copy)]
+#[derive(Clone, Copy, PartialEq, Eq, Debug)]
 pub enum HoldingState {
     // locked to read
     Reading,
@@ -9,7 +9,7 @@ pub enum HoldingState {
     Turned,
 }
 
-#[derive(Clone, Copy)]
+#[derive(Clone, Copy, PartialEq, Eq, Debug)]
 pub struct Holding {
     pub job: u8,
     pub object: u64,

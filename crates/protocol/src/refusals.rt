@@ -2,52 +2,33 @@
 ghost use Rattle.std.specs.Prelude.{◌≡◌};
 ghost use Rattle.protocol.specs.Refusals.{refusal_number};
 
-#[derive(Clone, Copy)]
+// Each by the number that answers it.
+#[derive(Clone, Copy, PartialEq, Eq, Debug)]
 pub enum Refusal {
-    RobustnessTooLarge,
-    LimitOutOfRange,
-    NoSuchPlace,
-    PlaceTaken,
-    UnknownKind,
-    NoJob,
-    LostJob,
-    NoSuchObject,
-    AlreadyHeld,
-    TooManyHeld,
-    OpenElsewhere,
-    WouldWaitForItself,
-    NoExecution,
-    TooManyExecutions,
-    NotOpen,
-    TooManyVersions,
-    HasOpen,
-    Waits,
+    RobustnessTooLarge = 1,
+    LimitOutOfRange = 2,
+    NoSuchPlace = 3,
+    PlaceTaken = 4,
+    UnknownKind = 5,
+    NoJob = 6,
+    LostJob = 7,
+    NoSuchObject = 8,
+    AlreadyHeld = 9,
+    TooManyHeld = 10,
+    OpenElsewhere = 11,
+    WouldWaitForItself = 12,
+    NoExecution = 13,
+    TooManyExecutions = 14,
+    NotOpen = 15,
+    TooManyVersions = 16,
+    HasOpen = 17,
+    Waits = 18,
 }
 
-impl Refusal {
-    // The number by which it is answered.
-    pub fn number(self) -> u8
-        ensures { result ≡ refusal_number self }
-    {
-        match self {
-            Refusal::RobustnessTooLarge => 1,
-            Refusal::LimitOutOfRange => 2,
-            Refusal::NoSuchPlace => 3,
-            Refusal::PlaceTaken => 4,
-            Refusal::UnknownKind => 5,
-            Refusal::NoJob => 6,
-            Refusal::LostJob => 7,
-            Refusal::NoSuchObject => 8,
-            Refusal::AlreadyHeld => 9,
-            Refusal::TooManyHeld => 10,
-            Refusal::OpenElsewhere => 11,
-            Refusal::WouldWaitForItself => 12,
-            Refusal::NoExecution => 13,
-            Refusal::TooManyExecutions => 14,
-            Refusal::NotOpen => 15,
-            Refusal::TooManyVersions => 16,
-            Refusal::HasOpen => 17,
-            Refusal::Waits => 18,
-        }
+impl From<Refusal> for u8 {
+    ghost from_gives = { λ refusal number. number ≡ refusal_number refusal };
+
+    fn from(refusal: Refusal) -> u8 {
+        refusal as u8
     }
 }

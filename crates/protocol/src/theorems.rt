@@ -14,6 +14,7 @@ ghost use Rattle.protocol.specs.WaitingLaws.{WaitingLaws};
 ghost use Rattle.protocol.specs.Cases.{Agree};
 
 // The law of the book.
+#[tactic(auto, using(crate::proofs::Law::law))]
 pub fn overlapping_jobs_leave_what_they_would_one_by_one() -> u8
     ensures { Stands }
 {
@@ -21,6 +22,7 @@ pub fn overlapping_jobs_leave_what_they_would_one_by_one() -> u8
 }
 
 // Sets of places, told by their members.
+#[tactic(auto, using(crate::proofs::SetLaws::set_laws))]
 pub fn sets_have_the_members_they_should() -> u8
     ensures { SetLaws }
 {
@@ -28,6 +30,7 @@ pub fn sets_have_the_members_they_should() -> u8
 }
 
 // Which number a call is answered.
+#[tactic(auto, using(crate::proofs::RefusalExact::refusal_laws))]
 pub fn the_first_reason_that_applies_is_answered() -> u8
     ensures { RefusalLaws }
 {
@@ -35,6 +38,7 @@ pub fn the_first_reason_that_applies_is_answered() -> u8
 }
 
 // The reasons to refuse a call, in plain words.
+#[tactic(auto, using(crate::proofs::ReasonsTell::reason_laws))]
 pub fn each_test_passes_exactly_when_its_reason_holds() -> u8
     ensures { ReasonLaws }
 {
@@ -42,6 +46,7 @@ pub fn each_test_passes_exactly_when_its_reason_holds() -> u8
 }
 
 // Who waits for whom.
+#[tactic(auto, using(crate::proofs::WaitingExact::waiting_laws))]
 pub fn a_job_waits_for_those_who_held_its_objects_before() -> u8
     ensures { WaitingLaws }
 {
@@ -49,6 +54,7 @@ pub fn a_job_waits_for_those_who_held_its_objects_before() -> u8
 }
 
 // The test for a ring of waits.
+#[tactic(auto, using(crate::proofs::RingTest::ring_test))]
 pub fn a_lock_is_refused_for_a_ring_exactly_when_it_closes_one() -> u8
     ensures { RingTest }
 {
@@ -56,6 +62,7 @@ pub fn a_lock_is_refused_for_a_ring_exactly_when_it_closes_one() -> u8
 }
 
 // What an object offers, and which executions a lock leaves.
+#[tactic(auto, using(crate::proofs::PairingExact::pairing_laws))]
 pub fn a_lock_keeps_exactly_the_pairs_that_agree() -> u8
     ensures { PairingLaws }
 {
@@ -63,6 +70,7 @@ pub fn a_lock_keeps_exactly_the_pairs_that_agree() -> u8
 }
 
 // What a commit and an abort leave.
+#[tactic(auto, using(crate::proofs::SettlingExact::settling_laws))]
 pub fn an_end_drops_exactly_what_took_the_other_ending() -> u8
     ensures { SettlingLaws }
 {
@@ -77,6 +85,7 @@ pub fn a_commit_writes_the_one_version_of_each_turned_object() -> u8
 }
 
 // The order of an object's versions.
+#[tactic(auto, using(crate::proofs::MakersOrder::version_order))]
 pub fn versions_stand_in_the_order_of_the_locks_of_their_makers() -> u8
     ensures { VersionOrder }
 {
@@ -84,6 +93,7 @@ pub fn versions_stand_in_the_order_of_the_locks_of_their_makers() -> u8
 }
 
 // What the history says of holdings and running jobs.
+#[tactic(auto, using(crate::proofs::HistoryBook::history_laws))]
 pub fn a_holding_begins_with_a_lock_and_ends_with_its_job() -> u8
     ensures { HistoryLaws }
 {
@@ -91,6 +101,7 @@ pub fn a_holding_begins_with_a_lock_and_ends_with_its_job() -> u8
 }
 
 // What the history says of relying and of ended jobs.
+#[tactic(auto, using(crate::proofs::RelyingExact::relying_laws))]
 pub fn a_lock_makes_a_job_rely_on_makers_and_on_whom_they_rely() -> u8
     ensures { RelyingLaws }
 {
@@ -98,6 +109,7 @@ pub fn a_lock_makes_a_job_rely_on_makers_and_on_whom_they_rely() -> u8
 }
 
 // Overlaps worked out by hand.
+#[tactic(auto, using(crate::proofs::Cases::all_agree))]
 pub fn worked_cases_agree() -> u8
     ensures { Agree }
 {

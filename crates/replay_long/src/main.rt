@@ -1,4 +1,4 @@
-// Replays the script on standard input: prints the answer to each line, then the value of each object and the executions of each running job.
+// The program `replay` once more: a program is run on one stored script, and this is the long one.
 #![tactic(auto)]
 
 use replays::replayed;

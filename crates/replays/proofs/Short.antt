@@ -1,8 +1,10 @@
 -- A script that is read has at most 32,769 lines.
-use Rattle.std.proofs.Common.{◌≡◌, ℕ, ◌+◌, ◌-◌, ◌≤◌, Bool, true, false, cond, eqb, ltb, List, [], ◌∷◌, map, length, take, Ok, Err, Result, refl, ap, arith, length-take}
+use Rattle.std.proofs.Common.{◌≡◌, ℕ, ◌+◌, ◌-◌, ◌≤◌, Bool, true, false, cond, ◌==◌, ltb, List, [], ◌∷◌, map, length, take, Ok, Err, Result, refl, ap, arith, length-take}
 use Rattle.std.proofs.lemmas.List.{length-map}
 use Rattle.std.proofs.lemmas.Bool.{ltb-false}
-use Rattle.fields.specs.Cut.{pieces, onto}
+use Rattle.std.proofs.lemmas.List.Splits.{length-slice_split}
+use Rattle.std.proofs.lemmas.List.Sums.{count_by-le-length}
+use Rattle.fields.specs.Cut.{pieces}
 use Rattle.fields.specs.Places.{body, fed}
 use Rattle.script.specs.Calls.{call_in}
 use Rattle.script.specs.Faults.{then}
@@ -13,18 +15,9 @@ use Rattle.script.specs.declared.faults.Fault.TheVariants.{Length}
 use Rattle.script.specs.declared.setups.Setup.{Setup}
 use Rattle.replays.specs.Output.{LineRead}
 
-onto_long : (x : ℕ) (ws : List (List ℕ)) → length (onto x ws) ≤ 1 + (length ws - 1)
-onto_long x [] = omega arith
-onto_long x (w ∷ ws) = omega arith
-
 -- one line more than there are line feeds
 pieces_few : (m : ℕ) (xs : List ℕ) → length (pieces m xs) ≤ length xs + 1
-pieces_few m [] = omega arith
-pieces_few m (x ∷ xs) = go (eqb x m) (pieces_few m xs)
-  where
-    go : (b : Bool) → length (pieces m xs) ≤ length xs + 1 → length (cond b ([] ∷ pieces m xs) (onto x (pieces m xs))) ≤ length (x ∷ xs) + 1
-    go true few = omega arith
-    go false few = omega (arith, onto_long x (pieces m xs))
+pieces_few m xs = omega (arith, length-slice_split (λ x. x == m) xs, count_by-le-length (λ x. x == m) xs)
 
 body_short : (s : List ℕ) → length (body s) ≤ length s
 body_short s = go (fed s)

@@ -1,12 +1,12 @@
 -- What a run tells is the output of a replay.
 use Rattle.std.proofs.Common.{◌≡◌, ℕ, true, false, List, ◌++◌, length, is_some, Some, None, Option, sym, ap, ◌∙◌, arith}
+use Rattle.std.specs.Prelude.{filter}
 use Rattle.std.proofs.lemmas.List.{append_assoc, append-nil}
 use Rattle.terms.specs.declared.calls.Call.{Call}
 use Rattle.terms.specs.Rule.{Rule}
 use Rattle.protocol.specs.declared.assumptions.Execution.{Execution}
 use Rattle.protocol.specs.declared.jobs.Job.{Job}
 use Rattle.protocol.specs.declared.refusals.Refusal.{Refusal}
-use Rattle.protocol.specs.Lists.{keep}
 use Rattle.protocol.specs.Lists.{first as first_of}
 use Rattle.protocol.specs.Model.{Model, new, names}
 use Rattle.protocol.specs.Step.{run, new_refusals}
@@ -32,7 +32,7 @@ module _ (r : Rule) (x l : ℕ) (values : List ℕ) (rs : List LineRead) (cs : L
       ∙ sym (ap (λ o. told_if o whole) none)
 
 -- the line of a place with a job, and of one without
-pub with_job : (es : List Execution) (p count : ℕ) (o : Option Job) → is_some o ≡ true → count ≡ length (keep (names p) es) → job_bytes p count ≡ place_bytes es p o
+pub with_job : (es : List Execution) (p count : ℕ) (o : Option Job) → is_some o ≡ true → count ≡ length (filter (names p) es) → job_bytes p count ≡ place_bytes es p o
 with_job es p count None some e = let z : ◌≡◌ {A = ℕ} 0 1 = cc in absurd (omega arith)
 with_job es p count (Some j) some e = ap (job_bytes p) e
 

@@ -1,12 +1,13 @@
 -- What a replay prints for the bytes of a script.
-use Rattle.std.specs.Prelude.{ℕ, ◌+◌, List, [], ◌∷◌, ◌++◌, length, replicate, Some, None, Ok, Err, Option, Result}
+use Rattle.std.specs.Prelude.{ℕ, ◌+◌, List, [], ◌∷◌, ◌++◌, length, replicate, Some, None, Ok, Err, Option, Result, filter, filter_map}
+use Rattle.std.specs.Result.{result_ok}
 use Rattle.terms.specs.declared.calls.Call.{Call}
 use Rattle.terms.specs.Rule.{Rule}
 use Rattle.protocol.specs.declared.assumptions.Execution.{Execution}
 use Rattle.protocol.specs.declared.jobs.Job.{Job}
 use Rattle.protocol.specs.declared.refusals.Refusal.{Refusal}
 use Rattle.protocol.specs.Cases.{answer_number}
-use Rattle.protocol.specs.Lists.{first, keep}
+use Rattle.protocol.specs.Lists.{first}
 use Rattle.protocol.specs.Model.{Model, new, names}
 use Rattle.protocol.specs.Refusals.{refusal_number}
 use Rattle.protocol.specs.Step.{answer, step, run, new_refusals}
@@ -24,10 +25,8 @@ abbrev pub LineRead : Type 0
 LineRead = Result Call Fault
 
 -- the calls among the lines, in order
-unfoldable pub calls_in : List LineRead → List Call
-calls_in [] = []
-calls_in (Ok c ∷ rs) = c ∷ calls_in rs
-calls_in (Err f ∷ rs) = calls_in rs
+abbrev pub calls_in : List LineRead → List Call
+calls_in rs = filter_map result_ok rs
 
 -- the answer to each line, from this book on: that of its call, or the number of its fault, which changes nothing
 unfoldable pub line_answers : Rule → Model → List LineRead → List ℕ
@@ -44,7 +43,7 @@ lines_from line n (x ∷ xs) = line n x ++ lines_from line (n + 1) xs
 -- the line of the job at a place, where one runs, by all executions
 abbrev pub place_bytes : List Execution → ℕ → Option Job → List ℕ
 place_bytes executions p None = []
-place_bytes executions p (Some j) = job_bytes p (length (keep (names p) executions))
+place_bytes executions p (Some j) = job_bytes p (length (filter (names p) executions))
 
 -- the answers to the lines after the first, which start at line 2; the values of the objects and the running jobs of the book at the end
 abbrev pub told : List ℕ → Model → List ℕ

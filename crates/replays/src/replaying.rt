@@ -1,97 +1,79 @@
 // A whole replay.
-ghost use Rattle.std.specs.Prelude.{◌≡◌, ◌≤◌, length, replicate, IfOk, string_bytes};
+ghost use Rattle.std.specs.Prelude.{◌≡◌, replicate, IfOk, string_bytes};
+ghost use Rattle.script.specs.Outputs.{answer_bytes};
 ghost use Rattle.book.specs.View.{view};
 ghost use Rattle.replays.specs.Output.{told, replay_of, rule_of, output};
 ghost use Rattle.replays.specs.Merged.{merged};
 
-use super::lines::{write_answers, write_jobs, write_objects};
-use super::readings::{calls_of, line_answers};
+use super::asked::Asked;
+use super::lines::{write_jobs, write_objects};
 use book::{Run, RunError, run};
 use house::{ChargeRule, LoanRule};
-use script::{Fault, ReadError, RuleName, Setup, StoreName, answer_line, read_script};
+use script::{OutputLine, ReadError, RuleName, Setup, StoreName, read_script};
 use std::alloc::{AllocError, Global};
 use stores::{ImageStore, TableStore};
-use terms::{Call, JobRule, Store};
+use terms::{JobRule, Store};
 
-// What a run tells.
-fn tell<S: Store>(
-    heap: Global,
-    store: &S,
-    done: &Run,
-    readings: &[Result<Call, Fault>],
-) -> Result<String, AllocError>
-    requires { length readings.now ≤ 32768 }
-    ensures { IfOk result (λ out. string_bytes out ≡ told (merged readings.now done.now.answers.items) (view (S.Store.values store.now) done.now.book)) }
+// The answer to the first line.
+fn first_answer(heap: Global, answer: u8) -> Result<String, AllocError>
+    ensures { IfOk result (λ out. string_bytes out ≡ answer_bytes 1 answer) }
 {
-    let mut out = answer_line(heap, 1, 0)?;
-    let answers = line_answers(heap, readings, done.answers.as_slice())?;
-    write_answers(&mut out, heap, answers.as_slice())?;
-    write_objects(&mut out, heap, store)?;
-    write_jobs(&mut out, heap, &done.book)?;
-    Ok(out)
+    OutputLine::Answer { number: 1, answer }.text(heap)
 }
 
-// Replays lines over a store.
-fn replay_on<S: Store, R: JobRule>(
-    heap: Global,
-    store: &mut S,
-    rule: &R,
-    setup: Setup,
-    readings: &[Result<Call, Fault>],
-) -> Result<String, AllocError>
-    requires { length readings.now ≤ 32768 }
-    ensures { IfOk result (λ out. string_bytes out ≡ replay_of (R.JobRule.means rule.now) (S.Store.values store.old) setup.robustness setup.limit readings.now) }
-{
-    let calls = calls_of(heap, readings)?;
-    match run(
-        heap,
-        setup.robustness,
-        setup.limit,
-        store,
-        rule,
-        calls.as_slice(),
-    ) {
-        Ok(done) => tell(heap, store, &done, readings),
-        Err(RunError::Refused(refusal)) => answer_line(heap, 1, refusal.number()),
-        Err(RunError::OutOfMemory) => Err(AllocError),
+impl Asked<'_> {
+    // What a run tells.
+    fn tell<S: Store>(&self, heap: Global, store: &S, done: &Run) -> Result<String, AllocError>
+        ensures { IfOk result (λ out. string_bytes out ≡ told (merged self.now.readings.now done.now.answers.items) (view (S.Store.values store.now) done.now.book)) }
+    {
+        let mut out = first_answer(heap, 0)?;
+        self.write_answers(&mut out, done.answers.as_slice())?;
+        write_objects(&mut out, store)?;
+        write_jobs(&mut out, &done.book)?;
+        Ok(out)
     }
-}
 
-// Replays lines over the store that the setup names, with all of its objects at 0.
-fn replay_by<R: JobRule>(
-    heap: Global,
-    rule: &R,
-    setup: Setup,
-    readings: &[Result<Call, Fault>],
-) -> Result<String, AllocError>
-    requires { length readings.now ≤ 32768 }
-    ensures { IfOk result (λ out. string_bytes out ≡ replay_of (R.JobRule.means rule.now) (replicate setup.objects 0) setup.robustness setup.limit readings.now) }
-{
-    let objects = u32::from(setup.objects);
-    match setup.store {
-        StoreName::Table => {
-            let mut store = TableStore::zeroed(heap, objects)?;
-            replay_on(heap, &mut store, rule, setup, readings)
-        }
-        StoreName::Image => {
-            let mut store = ImageStore::zeroed(heap, objects)?;
-            replay_on(heap, &mut store, rule, setup, readings)
+    // The replay over a store.
+    fn over<S: Store, R: JobRule>(
+        &self,
+        heap: Global,
+        store: &mut S,
+        rule: &R,
+    ) -> Result<String, AllocError>
+        ensures { IfOk result (λ out. string_bytes out ≡ replay_of (R.JobRule.means rule.now) (S.Store.values store.old) self.now.setup.robustness self.now.setup.limit self.now.readings.now) }
+    {
+        let calls = self.calls(heap)?;
+        let Setup {
+            robustness,
+            limit,
+            ..
+        } = self.setup;
+        match run(heap, robustness, limit, store, rule, calls.as_slice()) {
+            Ok(done) => self.tell(heap, store, &done),
+            Err(RunError::Refused(refusal)) => first_answer(heap, u8::from(refusal)),
+            Err(RunError::OutOfMemory) => Err(AllocError),
         }
     }
-}
 
-// Replays lines by the job rule that the setup names.
-fn replay_lines(
-    heap: Global,
-    setup: Setup,
-    readings: &[Result<Call, Fault>],
-) -> Result<String, AllocError>
-    requires { length readings.now ≤ 32768 }
-    ensures { IfOk result (λ out. string_bytes out ≡ replay_of (rule_of setup.rule) (replicate setup.objects 0) setup.robustness setup.limit readings.now) }
-{
-    match setup.rule {
-        RuleName::Charge => replay_by(heap, &ChargeRule, setup, readings),
-        RuleName::Loan => replay_by(heap, &LoanRule, setup, readings),
+    // The replay over the store that the setup names, with all of its objects at 0.
+    fn by<R: JobRule>(&self, heap: Global, rule: &R) -> Result<String, AllocError>
+        ensures { IfOk result (λ out. string_bytes out ≡ replay_of (R.JobRule.means rule.now) (replicate self.now.setup.objects 0) self.now.setup.robustness self.now.setup.limit self.now.readings.now) }
+    {
+        let objects = u32::from(self.setup.objects);
+        match self.setup.store {
+            StoreName::Table => self.over(heap, &mut TableStore::zeroed(heap, objects)?, rule),
+            StoreName::Image => self.over(heap, &mut ImageStore::zeroed(heap, objects)?, rule),
+        }
+    }
+
+    // The replay by the job rule that the setup names.
+    fn replayed(&self, heap: Global) -> Result<String, AllocError>
+        ensures { IfOk result (λ out. string_bytes out ≡ replay_of (rule_of self.now.setup.rule) (replicate self.now.setup.objects 0) self.now.setup.robustness self.now.setup.limit self.now.readings.now) }
+    {
+        match self.setup.rule {
+            RuleName::Charge => self.by(heap, &ChargeRule),
+            RuleName::Loan => self.by(heap, &LoanRule),
+        }
     }
 }
 
@@ -100,8 +82,14 @@ pub fn replayed(heap: Global, script: &[u8]) -> Result<String, AllocError>
     ensures { IfOk result (λ out. string_bytes out ≡ output script.now) }
 {
     match read_script(heap, script) {
-        Ok(read) => replay_lines(heap, read.setup, read.readings.as_slice()),
-        Err(ReadError::Refused(fault)) => answer_line(heap, 1, fault.number()),
+        Ok(read) => {
+            let asked = Asked {
+                setup: read.setup,
+                readings: read.readings.as_slice(),
+            };
+            asked.replayed(heap)
+        }
+        Err(ReadError::Refused(fault)) => first_answer(heap, u8::from(fault)),
         Err(ReadError::Memory) => Err(AllocError),
     }
 }

@@ -1,5 +1,5 @@
 -- From fields to the bytes that they hold, and from lines to what they ask for.
-use Rattle.std.proofs.Common.{◌≡◌, ℕ, zero, suc, Bool, true, false, cond, List, [], ◌∷◌, length, Some, None, Option, Result, sym, refl, ap, ◌∙◌, arith}
+use Rattle.std.proofs.Common.{◌≡◌, ℕ, zero, suc, Bool, true, false, cond, List, [], ◌∷◌, length, Some, None, Option, Result, sym, refl, ap, ◌∙◌}
 use lib.ListN.{length-map}
 use Rattle.fields.specs.declared.parts.Field.{Field}
 use Rattle.script.specs.Calls.{nth, call_by, call_of}
@@ -19,15 +19,6 @@ text_at (f ∷ fs) (suc i) = text_at fs i
 through : {X Y : Type 0} (b : Bool) (x y : Result X Fault) (f : X → Result Y Fault) → then (cond b x y) f ≡ cond b (then x f) (then y f)
 through true x y f = refl
 through false x y f = refl
-
--- no fields make no line
-pub no_first : (fs : List Field) → length fs ≡ 0 → first_line fs ≡ first_line []
-no_first [] h = refl
-no_first (f ∷ fs) h = absurd (omega arith)
-
-pub no_later : (fs : List Field) → length fs ≡ 0 → later_line fs ≡ later_line []
-no_later [] h = refl
-no_later (f ∷ fs) h = absurd (omega arith)
 
 module _ (fs : List Field) where
   later_asks : (o : Option ℕ) → then (later_by o fs) call_asked ≡ call_by o (length fs) (λ i. text_of (field fs i))

@@ -11,32 +11,27 @@ use Rattle.terms.specs.declared.modes.Mode.TheVariants.{Read, Write}
 use Rattle.script.specs.Calls.{nth, having, begin_of, lock_of, image_of, commit_of, abort_of, call_by, call_of, call_in}
 use Rattle.script.specs.Faults.{then}
 use Rattle.script.specs.Laws.{ShortCall, WrittenCallsReadBack}
-use Rattle.script.specs.Letters.{letter_in, mode_in, value_in}
-use Rattle.script.specs.Writing.{call_bytes}
+use Rattle.script.specs.Letters.{letter_in, mode_letter, mode_in, value_in}
+use Rattle.script.specs.Writing.{mode_bytes, call_bytes}
 use Rattle.script.specs.declared.faults.Fault.{Fault}
-use Rattle.script.proofs.Parses.{decimal_lacks, letter_lacks, read_value, value_ok, then_ok, having_ok, way, row, lettered, ok_same, either_ok}
-
-abbrev mode_letter : Mode → ℕ
-mode_letter Read = 82
-mode_letter Write = 87
+use Rattle.script.proofs.Parses.{decimal_lacks, letter_lacks, read_value, value_ok, then_ok, having_ok, way, row, lettered, ok_same, lettered_ok}
 
 -- the fields of a call's line
 abbrev parts : Call → List (List ℕ)
 parts (Begin p k a) = (66 ∷ []) ∷ decimal p ∷ decimal k ∷ decimal a ∷ []
-parts (Lock p o m) = (76 ∷ []) ∷ decimal p ∷ decimal o ∷ (mode_letter m ∷ []) ∷ []
+parts (Lock p o m) = (76 ∷ []) ∷ decimal p ∷ decimal o ∷ mode_bytes m ∷ []
 parts (Image p o) = (73 ∷ []) ∷ decimal p ∷ decimal o ∷ []
 parts (Commit p) = (67 ∷ []) ∷ decimal p ∷ []
 parts (Abort p) = (65 ∷ []) ∷ decimal p ∷ []
 
 joined : (c : Call) → join_with_byte 44 (parts c) ≡ call_bytes c
 joined (Begin p k a) = refl
-joined (Lock p o Read) = refl
-joined (Lock p o Write) = refl
+joined (Lock p o m) = refl
 joined (Image p o) = refl
 joined (Commit p) = refl
 joined (Abort p) = refl
 
-mode_lacks : (m : Mode) → LacksByte 44 (mode_letter m ∷ [])
+mode_lacks : (m : Mode) → LacksByte 44 (mode_bytes m)
 mode_lacks Read = letter_lacks 82 (λ e. absurd (omega arith))
 mode_lacks Write = letter_lacks 87 (λ e. absurd (omega arith))
 
@@ -54,7 +49,7 @@ some (Image p o) = omega arith
 some (Commit p) = omega arith
 some (Abort p) = omega arith
 
-read_mode : (m : Mode) → mode_in (mode_letter m ∷ []) ≡ Ok m
+read_mode : (m : Mode) → mode_in (mode_bytes m) ≡ Ok m
 read_mode Read = refl
 read_mode Write = refl
 
@@ -72,12 +67,8 @@ back c h = ap (λ l. call_of (pieces 44 l)) (sym (joined c)) ∙ ap call_of (uni
 abbrev Is : List (List ℕ) → Call → Type 0
 Is fs c = ShortCall (10 ^ 18) c × (fs ≡ parts c)
 
-mode_ok : (w : List ℕ) (m : Mode) → mode_in w ≡ Ok m → w ≡ mode_letter m ∷ []
-mode_ok w m e =
-    ⊎_elim
-    (λ p. p.0 ∙ ap (λ n. mode_letter n ∷ []) p.1)
-    (λ p. p.0 ∙ ap (λ n. mode_letter n ∷ []) p.1)
-    (either_ok 82 87 Read Write w m e)
+mode_ok : (w : List ℕ) (m : Mode) → mode_in w ≡ Ok m → w ≡ mode_bytes m
+mode_ok = lettered_ok 82 87 Read Write mode_letter refl refl
 
 module _ (c : Call) where
   begin_ok : (p k a : List ℕ) → begin_of p k a ≡ Ok c → Is ((66 ∷ []) ∷ p ∷ k ∷ a ∷ []) c

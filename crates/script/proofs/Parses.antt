@@ -12,7 +12,7 @@ use Rattle.fields.specs.Number.{number_in}
 use Rattle.fields.proofs.Written.{own, numbers_are_decimals}
 use Rattle.script.specs.Calls.{having}
 use Rattle.script.specs.Faults.{then}
-use Rattle.script.specs.Letters.{letter_in, either, value_in}
+use Rattle.script.specs.Letters.{letter_in, lettered_in, one_of, value_in}
 use Rattle.script.specs.declared.faults.Fault.{Fault}
 use Rattle.script.specs.declared.faults.Fault.TheVariants.{Count, Form}
 
@@ -33,9 +33,9 @@ letter_lacks c off (suc k) l e = absurd (omega arith)
 pub read_value : (n : ℕ) → n < 10 ^ 18 → value_in (decimal n) ≡ Ok n
 read_value n h = ap (λ o. ok_or o Form) (numbers_are_decimals.1 n h)
 
-some_from_ok : (o : Option ℕ) (n : ℕ) → ok_or o Form ≡ Ok n → o ≡ Some n
-some_from_ok None n e = absurd (grind arith)
-some_from_ok (Some x) n e = grind arith
+some_from_ok : {X : Type 0} (o : Option X) (x : X) → ok_or o Form ≡ Ok x → o ≡ Some x
+some_from_ok None x e = absurd (grind arith)
+some_from_ok (Some y) x e = cc
 
 -- a field that is read as a number is that number written
 pub value_ok : (w : List ℕ) (n : ℕ) → value_in w ≡ Ok n → (n < 10 ^ 18) × (w ≡ decimal n)
@@ -81,24 +81,30 @@ in_row fs i (suc n) h =
 pub ok_same : {X : Type 0} (x y : X) → ◌≡◌ {A = Result X Fault} (Ok x) (Ok y) → x ≡ y
 ok_same x y e = cc
 
--- a field that is read as one of two letters is that letter
-pub either_ok : {X : Type 0} (a b : ℕ) (x y : X) (w : List ℕ) (r : X) → either a x b y (letter_in w) ≡ Ok r → ((w ≡ a ∷ []) × (x ≡ r)) ⊎ ((w ≡ b ∷ []) × (y ≡ r))
-either_ok {X} a b x y w r = by (letter_in w) refl
-  where
-    last : (c : ℕ) → w ≡ c ∷ [] → cond (eqb c b) (Ok y) (Err Form) ≡ Ok r → (w ≡ b ∷ []) × (y ≡ r)
-    last c is e =
-        ⊎_elim
-        (λ p. (is ∙ ap (λ d. d ∷ []) p.0, ok_same y r p.1))
-        (λ f. absurd (grind arith))
-        (way c b (Ok y) (Err Form) r e)
+some_same : {X : Type 0} (x y : X) → ◌≡◌ {A = Option X} (Some x) (Some y) → x ≡ y
+some_same x y e = cc
 
-    by : (o : Option ℕ) → letter_in w ≡ o → either a x b y o ≡ Ok r → ((w ≡ a ∷ []) × (x ≡ r)) ⊎ ((w ≡ b ∷ []) × (y ≡ r))
-    by None is e = absurd (grind arith)
-    by (Some c) is e =
-        ⊎_elim
-        (λ p. inl (letter_some w c is ∙ ap (λ d. d ∷ []) p.0, ok_same x r p.1))
-        (λ f. inr (last c (letter_some w c is) f))
-        (way c a (Ok x) (cond (eqb c b) (Ok y) (Err Form)) r e)
+-- one of two letters
+one_of_some : {X : Type 0} (a b : ℕ) (x y : X) (c : ℕ) (r : X) → one_of a x b y c ≡ Some r → ((c ≡ a) × (x ≡ r)) ⊎ ((c ≡ b) × (y ≡ r))
+one_of_some a b x y c r = by (eqb c a) refl
+  where
+    last : (t : Bool) → eqb c b ≡ t → cond t (Some y) None ≡ Some r → (c ≡ b) × (y ≡ r)
+    last true t e = (eqb-true c b t, some_same y r e)
+    last false t e = absurd (grind arith)
+
+    by : (t : Bool) → eqb c a ≡ t → cond t (Some x) (cond (eqb c b) (Some y) None) ≡ Some r → ((c ≡ a) × (x ≡ r)) ⊎ ((c ≡ b) × (y ≡ r))
+    by true t e = inl (eqb-true c a t, some_same x r e)
+    by false t e = inr (last (eqb c b) refl e)
+
+-- a field that is read as what one of two letters stands for is its letter
+pub lettered_ok : {X : Type 0} (a b : ℕ) (x y : X) (letter_of : X → ℕ) → letter_of x ≡ a → letter_of y ≡ b → (w : List ℕ) (r : X) → lettered_in (one_of a x b y) w ≡ Ok r → w ≡ letter_of r ∷ []
+lettered_ok a b x y letter_of is_a is_b [] r e = absurd (grind arith)
+lettered_ok a b x y letter_of is_a is_b (c ∷ []) r e =
+    ⊎_elim
+    (λ p. ap (λ d. d ∷ []) (p.0 ∙ sym is_a ∙ ap letter_of p.1))
+    (λ p. ap (λ d. d ∷ []) (p.0 ∙ sym is_b ∙ ap letter_of p.1))
+    (one_of_some a b x y c r (some_from_ok (one_of a x b y c) r e))
+lettered_ok a b x y letter_of is_a is_b (c ∷ d ∷ w) r e = absurd (grind arith)
 
 -- the fields of a line by its letter and the fields after it
 pub lettered : (fs : List (List ℕ)) (l m n : ℕ) → letter_in (get_or fs 0 []) ≡ Some l → l ≡ m → length fs ≡ suc n → (m ∷ []) ∷ row fs 1 n ≡ fs

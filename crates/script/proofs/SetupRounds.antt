@@ -8,7 +8,7 @@ use Rattle.fields.proofs.Joins.{whole, unique}
 use Rattle.script.specs.Calls.{nth}
 use Rattle.script.specs.Faults.{then}
 use Rattle.script.specs.Laws.{ShortSetup, WrittenSetupsReadBack}
-use Rattle.script.specs.Letters.{letter_in, rule_in, store_in, value_in, objects_in}
+use Rattle.script.specs.Letters.{letter_in, rule_letter, rule_in, store_letter, store_in, value_in, objects_in}
 use Rattle.script.specs.Setups.{setup_with, setup_by, setup_of, setup_in}
 use Rattle.script.specs.Writing.{rule_bytes, store_bytes, setup_bytes}
 use Rattle.script.specs.declared.faults.Fault.TheVariants.{Form}
@@ -17,7 +17,7 @@ use Rattle.script.specs.declared.setups.RuleName.TheVariants.{Charge, Loan}
 use Rattle.script.specs.declared.setups.Setup.{Setup}
 use Rattle.script.specs.declared.setups.StoreName.{StoreName}
 use Rattle.script.specs.declared.setups.StoreName.TheVariants.{Table, Image}
-use Rattle.script.proofs.Parses.{decimal_lacks, letter_lacks, read_value, value_ok, then_ok, having_ok, way, lettered, ok_same, either_ok}
+use Rattle.script.proofs.Parses.{decimal_lacks, letter_lacks, read_value, value_ok, then_ok, having_ok, way, lettered, ok_same, lettered_ok}
 
 -- the fields of a setup's line
 abbrev parts : Setup → List (List ℕ)
@@ -63,10 +63,10 @@ abbrev Is : List (List ℕ) → Setup → Type 0
 Is fs s = ShortSetup (10 ^ 18) 64 s × (fs ≡ parts s)
 
 rule_ok : (w : List ℕ) (n : RuleName) → rule_in w ≡ Ok n → w ≡ rule_bytes n
-rule_ok w n e = ⊎_elim (λ p. p.0 ∙ ap rule_bytes p.1) (λ p. p.0 ∙ ap rule_bytes p.1) (either_ok 67 76 Charge Loan w n e)
+rule_ok = lettered_ok 67 76 Charge Loan rule_letter refl refl
 
 store_ok : (w : List ℕ) (n : StoreName) → store_in w ≡ Ok n → w ≡ store_bytes n
-store_ok w n e = ⊎_elim (λ p. p.0 ∙ ap store_bytes p.1) (λ p. p.0 ∙ ap store_bytes p.1) (either_ok 84 77 Table Image w n e)
+store_ok = lettered_ok 84 77 Table Image store_letter refl refl
 
 few : (x n : ℕ) (b : Bool) → leb x 64 ≡ b → cond b (Ok x) (Err Form) ≡ Ok n → (x ≤ 64) × (x ≡ n)
 few x n true t e = (leb-true x 64 t, ok_same x n e)

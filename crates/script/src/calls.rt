@@ -4,7 +4,7 @@ ghost use Rattle.script.specs.Calls.{call_of};
 ghost use Rattle.script.specs.Lines.{call_asked, texts};
 
 use super::faults::Fault;
-use super::letters::{mode, value};
+use super::letters::{by_letter, value};
 use super::lines::Line;
 use fields::Field;
 use terms::Call;
@@ -28,11 +28,11 @@ impl Line<'_> {
             Line::Lock {
                 place,
                 object,
-                mode: how,
+                mode,
             } => Ok(Call::Lock {
                 place: value(place.bytes)?,
                 object: value(object.bytes)?,
-                mode: mode(how.bytes)?,
+                mode: by_letter(mode.bytes)?,
             }),
             Line::Image { place, object } => Ok(Call::Image {
                 place: value(place.bytes)?,
@@ -52,6 +52,5 @@ impl Line<'_> {
 pub fn read_call(fields: &[Field]) -> Result<Call, Fault>
     ensures { result ≡ call_of (texts fields.now) }
 {
-    let line = Line::later(fields)?;
-    line.call()
+    Line::later(fields)?.call()
 }

@@ -1,13 +1,55 @@
 // Fields that are one letter, and fields that are a number.
-ghost use Rattle.std.specs.Prelude.{◌≡◌};
-ghost use Rattle.script.specs.Letters.{letter_in, mode_in, rule_in, store_in, value_in, objects_in};
+ghost use Rattle.std.specs.Prelude.{◌≡◌, ℕ, Option, refl};
+ghost use Rattle.script.specs.Letters.{letter_in, lettered_in, mode_letter, mode_of, value_in, objects_in, IsReadBack};
+ghost use Rattle.terms.specs.declared.modes.Mode.TheVariants.{Read, Write};
 
 use super::faults::Fault;
-use super::setups::{RuleName, StoreName};
 use fields::number;
 use terms::Mode;
 
-const MOST_OBJECTS: u64 = 64;
+const MOST_OBJECTS: u8 = 64;
+
+// What a script writes as one letter.
+pub(crate) trait Lettered: Sized {
+    ghost letter_of: { Self → ℕ };
+
+    ghost value_of: { ℕ → Option Self };
+
+    // The letter of the value.
+    fn letter(self) -> char
+        ensures { result ≡ letter_of self };
+
+    // The value of the letter, if it has one.
+    fn from_letter(letter: char) -> Option<Self>
+        ensures { result ≡ value_of letter };
+
+    // the letter of each value has that value
+    ghost reads_back: { IsReadBack letter_of value_of };
+}
+
+// How to lock.
+impl Lettered for Mode {
+    ghost letter_of = { mode_letter };
+
+    ghost value_of = { mode_of };
+
+    ghost reads_back = { elim [ Read ↦ refl | Write ↦ refl ] };
+
+    fn letter(self) -> char {
+        match self {
+            Mode::Read => 'R',
+            Mode::Write => 'W',
+        }
+    }
+
+    fn from_letter(letter: char) -> Option<Mode> {
+        match letter {
+            'R' => Some(Mode::Read),
+            'W' => Some(Mode::Write),
+            _ => None,
+        }
+    }
+}
 
 // The letter that is the whole field.
 pub(crate) fn letter(field: &[u8]) -> Option<char>
@@ -19,37 +61,12 @@ pub(crate) fn letter(field: &[u8]) -> Option<char>
     }
 }
 
-// How to lock.
-pub(crate) fn mode(field: &[u8]) -> Result<Mode, Fault>
-    ensures { result ≡ mode_in field.now }
+// What the letter that is the whole field stands for.
+pub(crate) fn by_letter<T: Lettered>(field: &[u8]) -> Result<T, Fault>
+    ensures { result ≡ lettered_in T.value_of field.now }
 {
-    match letter(field) {
-        Some('R') => Ok(Mode::Read),
-        Some('W') => Ok(Mode::Write),
-        _ => Err(Fault::Form),
-    }
-}
-
-// Which job rule.
-pub(crate) fn rule(field: &[u8]) -> Result<RuleName, Fault>
-    ensures { result ≡ rule_in field.now }
-{
-    match letter(field) {
-        Some('C') => Ok(RuleName::Charge),
-        Some('L') => Ok(RuleName::Loan),
-        _ => Err(Fault::Form),
-    }
-}
-
-// Which store.
-pub(crate) fn store(field: &[u8]) -> Result<StoreName, Fault>
-    ensures { result ≡ store_in field.now }
-{
-    match letter(field) {
-        Some('T') => Ok(StoreName::Table),
-        Some('M') => Ok(StoreName::Image),
-        _ => Err(Fault::Form),
-    }
+    let letter = letter(field).ok_or(Fault::Form)?;
+    T::from_letter(letter).ok_or(Fault::Form)
 }
 
 // A number.
@@ -60,12 +77,11 @@ pub(crate) fn value(field: &[u8]) -> Result<u64, Fault>
 }
 
 // How many objects.
-pub(crate) fn objects(field: &[u8]) -> Result<u8, Fault>
+pub(crate) fn object_count(field: &[u8]) -> Result<u8, Fault>
     ensures { result ≡ objects_in field.now }
 {
-    let count = value(field)?;
-    if count > MOST_OBJECTS {
-        return Err(Fault::Form);
+    match u8::try_from(value(field)?) {
+        Ok(count) if count <= MOST_OBJECTS => Ok(count),
+        _ => Err(Fault::Form),
     }
-    Ok(count as u8)
 }

@@ -14,7 +14,7 @@ pub mod writing;
 pub use calls::read_call;
 pub use faults::Fault;
 pub use lines::Line;
-pub use outputs::{answer_line, job_line, object_line};
+pub use outputs::OutputLine;
 pub use scripts::{ReadError, Script, read_script};
 pub use setups::{RuleName, Setup, StoreName, read_setup};
 pub use writing::{call_line, setup_line};

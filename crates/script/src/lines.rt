@@ -1,6 +1,7 @@
 // A line, by its letter and the fields after it.
 ghost use Rattle.std.specs.Prelude.{◌≡◌};
-ghost use Rattle.script.specs.Lines.{first_line, later_line};
+ghost use Rattle.script.specs.Letters.{letter_in};
+ghost use Rattle.script.specs.Lines.{first_line, later_line, field, text_of};
 
 use super::faults::Fault;
 use super::letters::letter;
@@ -37,15 +38,19 @@ pub enum Line<'a> {
     },
 }
 
+// The letter of a line: its first field, if that is a letter.
+fn line_letter(fields: &[Field]) -> Option<char>
+    ensures { result ≡ letter_in (text_of (field fields.now 0)) }
+{
+    letter(fields.first()?.bytes)
+}
+
 impl<'a> Line<'a> {
     // The first line of a script.
     pub fn first(fields: &[Field<'a>]) -> Result<Line<'a>, Fault>
         ensures { result ≡ first_line fields.now }
     {
-        let [front, ..] = fields else {
-            return Err(Fault::Letter);
-        };
-        match (letter(front.bytes), fields) {
+        match (line_letter(fields), fields) {
             (Some('S'), [_, rule, store, robustness, limit, objects]) => Ok(Line::Setup {
                 rule: *rule,
                 store: *store,
@@ -62,10 +67,7 @@ impl<'a> Line<'a> {
     pub fn later(fields: &[Field<'a>]) -> Result<Line<'a>, Fault>
         ensures { result ≡ later_line fields.now }
     {
-        let [front, ..] = fields else {
-            return Err(Fault::Letter);
-        };
-        match (letter(front.bytes), fields) {
+        match (line_letter(fields), fields) {
             (Some('B'), [_, place, kind, argument]) => Ok(Line::Begin {
                 place: *place,
                 kind: *kind,

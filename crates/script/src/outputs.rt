@@ -1,29 +1,59 @@
 // The lines of a replay's output, each with the line feed that ends it.
-ghost use Rattle.std.specs.Prelude.{◌≡◌, ◌≤◌, length, IfOk, string_bytes};
-ghost use Rattle.script.specs.Outputs.{answer_bytes, object_bytes, job_bytes};
+ghost use Rattle.std.specs.Prelude.{◌≡◌, ◌≤◌, length, IfOk, Some, string_bytes};
+ghost use Rattle.script.specs.Outputs.{line_bytes, FitsTypes};
 
 use std::alloc::{AllocError, Global};
+use std::fmt;
 
-// The answer to a line of the script: 0, or the number of its refusal.
-pub fn answer_line(heap: Global, number: u32, answer: u8) -> Result<String, AllocError>
-    ensures bytes { IfOk result (λ s. string_bytes s ≡ answer_bytes number answer) }
-    ensures short { IfOk result (λ s. length (string_bytes s) ≤ 32) }
-{
-    format!(in heap; "{number},{answer}\n")
+#[derive(Clone, Copy, PartialEq, Eq, Debug)]
+pub enum OutputLine {
+    // the answer to a line of the script: 0, or the number of its refusal
+    Answer { number: u32, answer: u8 },
+    // the value of an object
+    Object { object: u16, value: u64 },
+    // how many executions a running job has
+    Job { place: u8, executions: u8 },
 }
 
-// The value of an object.
-pub fn object_line(heap: Global, object: u16, value: u64) -> Result<String, AllocError>
-    ensures bytes { IfOk result (λ s. string_bytes s ≡ object_bytes object value) }
-    ensures short { IfOk result (λ s. length (string_bytes s) ≤ 32) }
-{
-    format!(in heap; "O,{object},{value}\n")
+impl fmt::Display for OutputLine {
+    ghost output = { λ line. Some (line_bytes line) };
+
+    fn fmt<W: fmt::Write>(&self, f: &mut fmt::Formatter<W>) -> fmt::Result {
+        match self {
+            OutputLine::Answer { number, answer } => writeln!(f, "{number},{answer}"),
+            OutputLine::Object { object, value } => writeln!(f, "O,{object},{value}"),
+            OutputLine::Job { place, executions } => writeln!(f, "J,{place},{executions}"),
+        }
+    }
 }
 
-// How many executions a running job has.
-pub fn job_line(heap: Global, place: u8, executions: u8) -> Result<String, AllocError>
-    ensures bytes { IfOk result (λ s. string_bytes s ≡ job_bytes place executions) }
-    ensures short { IfOk result (λ s. length (string_bytes s) ≤ 32) }
-{
-    format!(in heap; "J,{place},{executions}\n")
+impl OutputLine {
+    // The line as a text.
+    pub fn text(self, heap: Global) -> Result<String, AllocError>
+        ensures bytes { IfOk result (λ s. string_bytes s ≡ line_bytes self) }
+        ensures short { IfOk result (λ s. length (string_bytes s) ≤ 32) }
+    {
+        self.fits();
+        format!(in heap; "{self}")
+    }
+
+    // Each number is of its type, as its reading shows.
+    fn fits(self)
+        ensures { FitsTypes self }
+    {
+        match self {
+            OutputLine::Answer {
+                number: _number,
+                answer: _answer,
+            } => (),
+            OutputLine::Object {
+                object: _object,
+                value: _value,
+            } => (),
+            OutputLine::Job {
+                place: _place,
+                executions: _executions,
+            } => (),
+        }
+    }
 }

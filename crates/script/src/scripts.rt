@@ -1,7 +1,7 @@
 // Reads a whole script.
 ghost use Rattle.std.specs.Prelude.{◌≡◌, map, IfOk, Ok, MatchResult};
 ghost use Rattle.script.specs.Scripts.{row_asked, script_in, Explains};
-ghost use Rattle.script.specs.declared.scripts.ReadError.TheVariants.{Memory};
+ghost use Rattle.script.specs.declared.scripts.ReadError.TheVariants.{Refused, Memory};
 
 use super::calls::read_call;
 use super::faults::Fault;
@@ -26,8 +26,16 @@ pub enum ReadError {
     Memory,
 }
 
+impl From<Fault> for ReadError {
+    ghost from_gives = { λ fault error. error ≡ Refused fault };
+
+    fn from(fault: Fault) -> ReadError {
+        ReadError::Refused(fault)
+    }
+}
+
 impl From<AllocError> for ReadError {
-    ghost from_gives = { λ _ r. r ≡ Memory };
+    ghost from_gives = { λ _ error. error ≡ Memory };
 
     fn from(_: AllocError) -> ReadError {
         ReadError::Memory
@@ -38,11 +46,10 @@ impl From<AllocError> for ReadError {
 fn read_calls(heap: Global, lines: &[Vec<Field>]) -> Result<Vec<Result<Call, Fault>>, AllocError>
     ensures { IfOk result (λ v. v.items ≡ map row_asked lines.now) }
 {
-    let mut readings = Vec::new(heap);
-    for line in lines {
-        readings.push(read_call(line.as_slice()))?;
-    }
-    Ok(readings)
+    lines
+        .iter()
+        .map(|line| read_call(line.as_slice()))
+        .collect(heap)
 }
 
 // The setup of a script and the readings of its other lines, in their order.
@@ -56,11 +63,7 @@ pub fn read_script(heap: Global, script: &[u8]) -> Result<Script, ReadError>
     let [first, others @ ..] = lines.as_slice() else {
         return Err(ReadError::Refused(Fault::Letter));
     };
-    match read_setup(first.as_slice()) {
-        Ok(setup) => Ok(Script {
-            setup,
-            readings: read_calls(heap, others)?,
-        }),
-        Err(fault) => Err(ReadError::Refused(fault)),
-    }
+    let setup = read_setup(first.as_slice())?;
+    let readings = read_calls(heap, others)?;
+    Ok(Script { setup, readings })
 }

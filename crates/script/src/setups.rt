@@ -1,10 +1,13 @@
 // The setup that the first line gives.
-ghost use Rattle.std.specs.Prelude.{◌≡◌};
+ghost use Rattle.std.specs.Prelude.{◌≡◌, refl};
+ghost use Rattle.script.specs.Letters.{rule_letter, rule_of, store_letter, store_of};
 ghost use Rattle.script.specs.Setups.{setup_of};
 ghost use Rattle.script.specs.Lines.{setup_asked, texts};
+ghost use Rattle.script.specs.declared.setups.RuleName.TheVariants.{Charge, Loan};
+ghost use Rattle.script.specs.declared.setups.StoreName.TheVariants.{Table, Image};
 
 use super::faults::Fault;
-use super::letters;
+use super::letters::{Lettered, by_letter, object_count, value};
 use super::lines::Line;
 use fields::Field;
 
@@ -29,6 +32,52 @@ pub struct Setup {
     pub objects: u8,
 }
 
+impl Lettered for RuleName {
+    ghost letter_of = { rule_letter };
+
+    ghost value_of = { rule_of };
+
+    ghost reads_back = { elim [ Charge ↦ refl | Loan ↦ refl ] };
+
+    fn letter(self) -> char {
+        match self {
+            RuleName::Charge => 'C',
+            RuleName::Loan => 'L',
+        }
+    }
+
+    fn from_letter(letter: char) -> Option<RuleName> {
+        match letter {
+            'C' => Some(RuleName::Charge),
+            'L' => Some(RuleName::Loan),
+            _ => None,
+        }
+    }
+}
+
+impl Lettered for StoreName {
+    ghost letter_of = { store_letter };
+
+    ghost value_of = { store_of };
+
+    ghost reads_back = { elim [ Table ↦ refl | Image ↦ refl ] };
+
+    fn letter(self) -> char {
+        match self {
+            StoreName::Table => 'T',
+            StoreName::Image => 'M',
+        }
+    }
+
+    fn from_letter(letter: char) -> Option<StoreName> {
+        match letter {
+            'T' => Some(StoreName::Table),
+            'M' => Some(StoreName::Image),
+            _ => None,
+        }
+    }
+}
+
 impl Line<'_> {
     // The setup that the line gives; only the first line of a script gives one.
     pub fn setup(&self) -> Result<Setup, Fault>
@@ -42,11 +91,11 @@ impl Line<'_> {
                 limit,
                 objects,
             } => Ok(Setup {
-                rule: letters::rule(rule.bytes)?,
-                store: letters::store(store.bytes)?,
-                robustness: letters::value(robustness.bytes)?,
-                limit: letters::value(limit.bytes)?,
-                objects: letters::objects(objects.bytes)?,
+                rule: by_letter(rule.bytes)?,
+                store: by_letter(store.bytes)?,
+                robustness: value(robustness.bytes)?,
+                limit: value(limit.bytes)?,
+                objects: object_count(objects.bytes)?,
             }),
             _ => Err(Fault::Letter),
         }
@@ -57,6 +106,5 @@ impl Line<'_> {
 pub fn read_setup(fields: &[Field]) -> Result<Setup, Fault>
     ensures { result ≡ setup_of (texts fields.now) }
 {
-    let line = Line::first(fields)?;
-    line.setup()
+    Line::first(fields)?.setup()
 }

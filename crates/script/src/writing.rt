@@ -2,10 +2,11 @@
 ghost use Rattle.std.specs.Prelude.{◌≡◌, IfOk, Some, string_bytes};
 ghost use Rattle.script.specs.Writing.{call_bytes, rule_bytes, store_bytes, setup_bytes};
 
+use super::letters::Lettered;
 use super::setups::{RuleName, Setup, StoreName};
 use std::alloc::{AllocError, Global};
 use std::fmt;
-use terms::{Call, Mode};
+use terms::Call;
 
 // The line that asks for a call.
 pub fn call_line(heap: Global, call: Call) -> Result<String, AllocError>
@@ -20,13 +21,8 @@ pub fn call_line(heap: Global, call: Call) -> Result<String, AllocError>
         Call::Lock {
             place,
             object,
-            mode: Mode::Read,
-        } => format!(in heap; "L,{place},{object},R"),
-        Call::Lock {
-            place,
-            object,
-            mode: Mode::Write,
-        } => format!(in heap; "L,{place},{object},W"),
+            mode,
+        } => format!(in heap; "L,{place},{object},{}", mode.letter()),
         Call::Image { place, object } => format!(in heap; "I,{place},{object}"),
         Call::Commit { place } => format!(in heap; "C,{place}"),
         Call::Abort { place } => format!(in heap; "A,{place}"),
@@ -34,24 +30,33 @@ pub fn call_line(heap: Global, call: Call) -> Result<String, AllocError>
 }
 
 impl fmt::Display for RuleName {
-    ghost output = { λ n. Some (rule_bytes n) };
+    ghost output = { λ rule. Some (rule_bytes rule) };
 
     fn fmt<W: fmt::Write>(&self, f: &mut fmt::Formatter<W>) -> fmt::Result {
-        match self {
-            RuleName::Charge => write!(f, "C"),
-            RuleName::Loan => write!(f, "L"),
-        }
+        write!(f, "{}", self.letter())
     }
 }
 
 impl fmt::Display for StoreName {
-    ghost output = { λ n. Some (store_bytes n) };
+    ghost output = { λ store. Some (store_bytes store) };
 
     fn fmt<W: fmt::Write>(&self, f: &mut fmt::Formatter<W>) -> fmt::Result {
-        match self {
-            StoreName::Table => write!(f, "T"),
-            StoreName::Image => write!(f, "M"),
-        }
+        write!(f, "{}", self.letter())
+    }
+}
+
+impl fmt::Display for Setup {
+    ghost output = { λ setup. Some (setup_bytes setup) };
+
+    fn fmt<W: fmt::Write>(&self, f: &mut fmt::Formatter<W>) -> fmt::Result {
+        let Setup {
+            rule,
+            store,
+            robustness,
+            limit,
+            objects,
+        } = self;
+        write!(f, "S,{rule},{store},{robustness},{limit},{objects}")
     }
 }
 
@@ -59,12 +64,5 @@ impl fmt::Display for StoreName {
 pub fn setup_line(heap: Global, setup: Setup) -> Result<String, AllocError>
     ensures { IfOk result (λ s. string_bytes s ≡ setup_bytes setup) }
 {
-    let Setup {
-        rule,
-        store,
-        robustness,
-        limit,
-        objects,
-    } = setup;
-    format!(in heap; "S,{rule},{store},{robustness},{limit},{objects}")
+    format!(in heap; "{setup}")
 }

@@ -12,16 +12,13 @@ use std::io::Read;
 fn said<T: Debug + Drop>(heap: Global, read: Result<T, Fault>) -> Result<String, AllocError> {
     match read {
         Ok(value) => format!(in heap; "{value:?}"),
-        Err(fault) => format!(in heap; "{}", fault.number()),
+        Err(fault) => format!(in heap; "{}", u8::from(fault)),
     }
 }
 
 // Where the last field stands.
 fn last_place(fields: &[Field]) -> usize {
-    match fields {
-        [.., last] => last.at,
-        [] => 0,
-    }
+    fields.last().map_or(0, |last| last.at)
 }
 
 fn main(rt: HostRuntime) -> io::Result<()> {
@@ -29,7 +26,7 @@ fn main(rt: HostRuntime) -> io::Result<()> {
     let mut input = Vec::new(heap);
     rt.stdin().read_to_end(&mut input)?;
     let lines = rows(heap, input.as_slice())?;
-    for line in lines.as_slice() {
+    for line in &lines {
         let fields = line.as_slice();
         let count = fields.len();
         let place = last_place(fields);
@@ -42,8 +39,9 @@ fn main(rt: HostRuntime) -> io::Result<()> {
 
 #[cfg(test)]
 mod tests {
-    use script::{ReadError, answer_line, job_line, object_line, read_script};
+    use script::{OutputLine, ReadError, read_script};
     use std::alloc::{AllocError, Global};
+    use std::fmt::Write;
     use std::test::Fail;
 
     // scripts: the number of each later line, 0 where it is read; or that of the script
@@ -73,16 +71,12 @@ mod tests {
     fn numbers(heap: Global, script: &[u8]) -> Result<String, AllocError> {
         match read_script(heap, script) {
             Err(ReadError::Memory) => Err(AllocError),
-            Err(ReadError::Refused(fault)) => format!(in heap; "refused {}", fault.number()),
+            Err(ReadError::Refused(fault)) => format!(in heap; "refused {}", u8::from(fault)),
             Ok(read) => {
                 let mut text = String::from_str(heap, "read")?;
                 for reading in read.readings.as_slice() {
-                    let number = match reading {
-                        Ok(_) => 0,
-                        Err(fault) => fault.number(),
-                    };
-                    let word = format!(in heap; " {number}")?;
-                    text.push_str(word.as_str())?;
+                    let number = reading.err().map_or(0, u8::from);
+                    write!(text, " {number}")?;
                 }
                 Ok(text)
             }
@@ -125,12 +119,24 @@ mod tests {
     #[test]
     fn output_lines_are_written(rt: HostRuntime) -> Result<(), Fail> {
         let heap = rt.alloc();
-        assert_eq!(rt; answer_line(heap, 8, 18)?.as_str(), "8,18\n");
+        let answer = OutputLine::Answer {
+            number: 8,
+            answer: 18,
+        };
+        assert_eq!(rt; answer.text(heap)?.as_str(), "8,18\n");
+        let object = OutputLine::Object {
+            object: 65_535,
+            value: u64::MAX,
+        };
         assert_eq!(rt;
-            object_line(heap, 65_535, u64::MAX)?.as_str(),
+            object.text(heap)?.as_str(),
             "O,65535,18446744073709551615\n"
         );
-        assert_eq!(rt; job_line(heap, 15, 16)?.as_str(), "J,15,16\n");
+        let job = OutputLine::Job {
+            place: 15,
+            executions: 16,
+        };
+        assert_eq!(rt; job.text(heap)?.as_str(), "J,15,16\n");
         Ok(())
     }
 }

@@ -11,11 +11,8 @@ fn run(rt: &HostRuntime) -> anyhow::Result<()> {
     let mut text = Vec::new(rt.alloc());
     rt.stdin().read_to_end(&mut text)?;
     let packs = read_packs(rt.alloc(), &text)?;
-    let sheet = plan_sheet(&TableStore::new(packs));
-    for line in sheet {
-        let minutes = line.minutes;
-        let hours = line.hours;
-        println!(rt; "{minutes:>2} {hours:>20}")?;
+    for line in plan_sheet(&TableStore::new(packs)) {
+        println!(rt; "{line}")?;
     }
     Ok(())
 }

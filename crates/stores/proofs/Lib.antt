@@ -1,3 +1,3 @@
-pub mod Answered
+pub mod Firsts
 pub mod Tables
 pub mod Images

@@ -1,35 +1,16 @@
 // A store over an image of bytes, eight for each object, the highest first.
-ghost use Rattle.std.specs.Prelude.{◌≡◌, ◌+◌, ◌*◌, ◌≤◌, min, length, replicate, IfOk, slice_set};
+ghost use Rattle.std.specs.Prelude.{◌≡◌, ◌*◌, min, replicate, IfOk, slice_set};
 ghost use Rattle.terms.specs.Objects.{value_at, has_object};
-ghost use Rattle.stores.specs.Image.{word_at, image_values, image_short, image_written};
+ghost use Rattle.stores.specs.Image.{image_words, image_values, image_short, image_written};
 
 use std::alloc::{AllocError, Global};
-use terms::Store;
-
-const MOST_OBJECTS: usize = 65536;
+use terms::{MOST_OBJECTS, Store};
 
 const BYTES: usize = 8;
 
 #[derive(Drop)]
 pub struct ImageStore {
     image: Vec<u8>,
-}
-
-// The number that the eight bytes from a place on spell.
-fn word(bytes: &[u8], place: usize) -> u64
-    requires { place + 8 ≤ length bytes.now }
-    ensures { result ≡ word_at bytes.now place }
-{
-    u64::from_be_bytes([
-        bytes[place],
-        bytes[place + 1],
-        bytes[place + 2],
-        bytes[place + 3],
-        bytes[place + 4],
-        bytes[place + 5],
-        bytes[place + 6],
-        bytes[place + 7],
-    ])
 }
 
 impl ImageStore {
@@ -42,12 +23,22 @@ impl ImageStore {
     }
 
     // A store over the bytes of so many objects, all at 0.
+    #[tactic(auto, using(crate::proofs::Images::image_zeros))]
     pub fn zeroed(heap: Global, count: u32) -> Result<ImageStore, AllocError>
         ensures whole { IfOk result (λ s. s.image.items ≡ replicate (count * 8) 0) }
         ensures holds { IfOk result (λ s. image_values s.image.items ≡ replicate (min 65536 count) 0) }
     {
         let image = vec![in heap; 0; count as usize * BYTES]?;
         Ok(ImageStore { image })
+    }
+
+    // The words of the objects, each of eight bytes.
+    #[tactic(auto, using(crate::proofs::Images::words_first))]
+    fn words(&self) -> &[[u8; BYTES]]
+        ensures { result.now ≡ image_words self.now.image.items }
+    {
+        let (words, _) = self.image.as_chunks();
+        &words[..words.len().min(MOST_OBJECTS)]
     }
 
     // The bytes, those of no object too.
@@ -71,18 +62,19 @@ impl Store for ImageStore {
 
     ghost short = { λ s. image_short s.image.items };
 
+    #[tactic(auto, unfolding(crate::specs::Image::image_values))]
     fn len(&self) -> u64 {
-        (self.image.len() / BYTES).min(MOST_OBJECTS) as u64
+        self.words().len() as u64
     }
 
+    #[tactic(auto, unfolding(crate::specs::Image::image_values))]
     fn read(&self, object: u64) -> Option<u64> {
-        if object < self.len() {
-            Some(word(&self.image, object as usize * BYTES))
-        } else {
-            None
-        }
+        self.words()
+            .get(object as usize)
+            .map(|word| u64::from_be_bytes(*word))
     }
 
+    #[tactic(auto, using(crate::proofs::Images::values_fit))]
     fn write(&mut self, object: u64, value: u64) -> Option<()>
         ensures answers { result ≡ has_object (image_values self.old.image.items) object }
         ensures replaces { image_values self.new.image.items ≡ slice_set (image_values self.old.image.items) object value }
@@ -93,7 +85,7 @@ impl Store for ImageStore {
         }
         let place = object as usize * BYTES;
         let bytes = value.to_be_bytes();
-        self.image.as_mut_slice()[place..place + BYTES].copy_from_slice(&bytes);
+        self.image[place..place + BYTES].copy_from_slice(&bytes);
         Some(())
     }
 }

@@ -4,9 +4,7 @@ ghost use Rattle.terms.specs.Objects.{value_at, has_object};
 ghost use Rattle.stores.specs.Table.{table_values, table_short, table_written};
 
 use std::alloc::{AllocError, Global};
-use terms::Store;
-
-const MOST_OBJECTS: usize = 65536;
+use terms::{MOST_OBJECTS, Store};
 
 #[derive(Drop)]
 pub struct TableStore {
@@ -23,12 +21,21 @@ impl TableStore {
     }
 
     // A store over so many numbers, all at 0.
+    #[tactic(auto, using(crate::proofs::Tables::table_zeros))]
     pub fn zeroed(heap: Global, count: u32) -> Result<TableStore, AllocError>
         ensures whole { IfOk result (λ s. s.numbers.items ≡ replicate count 0) }
         ensures holds { IfOk result (λ s. table_values s.numbers.items ≡ replicate (min 65536 count) 0) }
     {
         let numbers = vec![in heap; 0; count as usize]?;
         Ok(TableStore { numbers })
+    }
+
+    // The numbers of the objects.
+    #[tactic(auto, using(crate::proofs::Tables::table_first))]
+    fn objects(&self) -> &[u64]
+        ensures { result.now ≡ table_values self.now.numbers.items }
+    {
+        &self.numbers[..self.numbers.len().min(MOST_OBJECTS)]
     }
 
     // The numbers, those past the last object too.
@@ -53,17 +60,14 @@ impl Store for TableStore {
     ghost short = { λ s. table_short s.numbers.items };
 
     fn len(&self) -> u64 {
-        self.numbers.len().min(MOST_OBJECTS) as u64
+        self.objects().len() as u64
     }
 
     fn read(&self, object: u64) -> Option<u64> {
-        if object < self.len() {
-            Some(self.numbers[object as usize])
-        } else {
-            None
-        }
+        self.objects().get(object as usize).copied()
     }
 
+    #[tactic(auto, using(crate::proofs::Tables::table_set, crate::proofs::Tables::table_within))]
     fn write(&mut self, object: u64, value: u64) -> Option<()>
         ensures answers { result ≡ has_object (table_values self.old.numbers.items) object }
         ensures replaces { table_values self.new.numbers.items ≡ slice_set (table_values self.old.numbers.items) object value }

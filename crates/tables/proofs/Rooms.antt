@@ -1,12 +1,12 @@
 -- Where each place keeps to its room, the records are few and name places; and each step of a book keeps to the room.
 use Rattle.std.proofs.Common.{◌≡◌, ℕ, ◌+◌, ◌*◌, ◌<◌, ◌≤◌, Bool, true, not, ◌&&◌, eqb, List, ◌++◌, map, length, get_or, set, Some, None, Option, ap, ◌∙◌, inl, inr, arith}
+use Rattle.std.specs.Prelude.{filter}
 use Rattle.std.proofs.lemmas.List.{get_or_past, get_or-set_other}
 use Rattle.std.proofs.lemmas.Bool.{cases_eq, cases_lt, both_ways, and_parts, not-true, eq-eqb}
 use Rattle.protocol.specs.declared.jobs.Job.{Job}
-use Rattle.protocol.specs.Lists.{keep}
 use Rattle.tables.specs.Ended.{others}
 use Rattle.tables.specs.Within.{count, room, Within}
-use Rattle.tables.proofs.Counts.{few, count_parts, count_keep, count_map, count_none, count_others, count_append, count_at}
+use Rattle.tables.proofs.Counts.{few, count_parts, count_filter, count_map, count_none, count_others, count_append, count_at}
 
 room_le : (b : ℕ) (j : Option Job) → room b j ≤ b
 room_le b None = omega arith
@@ -33,8 +33,8 @@ module _ {A : Type 0} (b : ℕ) (job : A → ℕ) (jobs : List (Option Job)) (xs
           | inr h ↦ absurd (omega (arith, w (job (get_or xs k d)), no_room (job (get_or xs k d)) h, count_at job xs k d l))
         ]
 
-  pub within_keep : (t : A → Bool) → Within b job jobs (keep t xs)
-  within_keep t p = omega (arith, w p, count_keep job t p xs)
+  pub within_filter : (t : A → Bool) → Within b job jobs (filter t xs)
+  within_filter t p = omega (arith, w p, count_filter job t p xs)
 
   -- records are changed, and name the jobs they named
   pub within_map : (f : A → A) → ((x : A) → job (f x) ≡ job x) → Within b job jobs (map f xs)
@@ -65,11 +65,11 @@ module _ {A : Type 0} (b : ℕ) (job : A → ℕ) (jobs : List (Option Job)) (xs
         | inr ne ↦ omega (arith, w q, less q, ap (room b) (get_or-set_other jobs p q None None ne))
       ]
 
-  pub within_removed : (p : ℕ) → Within b job (set jobs p None) (keep (λ x. not (eqb (job x) p)) xs)
-  within_removed p = within_ended (others job p xs) p (λ q. count_keep job (λ x. not (eqb (job x) p)) q xs) (count_others job p xs)
+  pub within_removed : (p : ℕ) → Within b job (set jobs p None) (filter (λ x. not (eqb (job x) p)) xs)
+  within_removed p = within_ended (others job p xs) p (λ q. count_filter job (λ x. not (eqb (job x) p)) q xs) (count_others job p xs)
 
-  pub within_settled : (p : ℕ) (u : A → Bool) (f : A → A) → ((x : A) → job (f x) ≡ job x) → Within b job (set jobs p None) (map f (keep (λ x. not (eqb (job x) p) && u x) xs))
+  pub within_settled : (p : ℕ) (u : A → Bool) (f : A → A) → ((x : A) → job (f x) ≡ job x) → Within b job (set jobs p None) (map f (filter (λ x. not (eqb (job x) p) && u x) xs))
   within_settled p u f same =
       let t : A → Bool = λ x. not (eqb (job x) p) && u x in
       let apart : (x : A) → t x ≡ true → job x ≡ p → ⊥ = λ x e h. both_ways (eqb (job x) p) (not-true _ (and_parts (not (eqb (job x) p)) (u x) e).0) (eq-eqb (job x) p h) in
-      within_ended (map f (keep t xs)) p (λ q. omega (arith, count_map job f same q (keep t xs), count_keep job t q xs)) (count_map job f same p (keep t xs) ∙ count_none job t p apart xs)
+      within_ended (map f (filter t xs)) p (λ q. omega (arith, count_map job f same q (filter t xs), count_filter job t q xs)) (count_map job f same p (filter t xs) ∙ count_none job t p apart xs)

@@ -1,73 +1,90 @@
--- A loop that moves to the front, changed by f, what passes a test.
-use Rattle.std.proofs.Common.{◌≡◌, ℕ, ◌+◌, ◌-◌, ◌<◌, ◌≤◌, Bool, true, false, cond, List, [], ◌∷◌, ◌++◌, map, length, get_or, take, drop, set, replicate, filter, sym, ap, ◌∙◌, ap₂, arith}
+-- A loop that moves to the front what a rule leaves of each record.
+use Rattle.std.proofs.Common.{◌≡◌, ℕ, ◌+◌, ◌-◌, ◌<◌, ◌≤◌, Bool, true, false, cond, Option, Some, None, List, [], ◌∷◌, ◌++◌, map, length, get_or, take, drop, set, replicate, filter, sym, refl, ap, subst, ◌∙◌, ap₂, arith}
+use Rattle.std.specs.List.{filter_map, cons_option}
 use borrow.Rule.Slice.PartMut.{put_mid, post_of}
-use Rattle.std.proofs.lemmas.List.Elements.{filter_more}
-use Rattle.std.proofs.lemmas.List.{append-nil, map-append, take_more_set, take_all, drop_more, drop-set-lt, drop-drop, drop_all, length-drop, length-set, length-take-le}
-use Rattle.tables.specs.Ended.{padded}
+use Rattle.std.proofs.lemmas.List.Elements.{filter_map-append}
+use Rattle.std.proofs.lemmas.List.{append-nil, take_more, take_more_set, take_all, drop_more, drop-set-lt, drop-drop, drop_all, length-drop, length-set, length-take-le, map-id}
+use Rattle.tables.specs.Ended.{Compacted}
 
--- ys began as xs. What passes in the first i of xs stands, changed, in the first k places of ys, and from i on ys is as it was
-pub record Sifting {T : Type 0} (t : T → Bool) (f : T → T) (xs ys : List T) (k i : ℕ) : Type 0 where
-  pub front : take k ys ≡ map f (filter t (take i xs))
+-- ys began as xs. What is left of the first i of xs stands in the first k places of ys, and from i on ys is as it was
+pub record Sifting {T : Type 0} (rule : T → Option T) (xs ys : List T) (k i : ℕ) : Type 0 where
+  pub front : take k ys ≡ filter_map rule (take i xs)
   pub rest : drop i ys ≡ drop i xs
   pub behind : k ≤ i
   pub within : i ≤ length xs
   pub long : length ys ≡ length xs
 
-module _ {T : Type 0} (t : T → Bool) (f : T → T) where
-  module _ (xs ys : List T) (k i : ℕ) (x : T) (s : Sifting t f xs ys k i) (l : i < length ys) (is : x ≡ get_or ys i x) where
-    here : get_or xs i x ≡ x
-    here =
+module _ {T : Type 0} (rule : T → Option T) where
+  module _ (xs ys : List T) (k i : ℕ) (x : T) (s : Sifting rule xs ys k i) (l : i < length ys) (is : x ≡ get_or ys i x) where
+    -- xs reads at i as ys does, and they end alike behind it
+    both : (get_or xs i x ≡ x) × (drop (i + 1) ys ≡ drop (i + 1) xs)
+    both =
         let l' : i < length xs = omega (arith, s.long) in
         let a = drop_more ys i x l in
         let b = drop_more xs i x l' in
         let r = s.rest in
-        cc
+        (cc, cc)
 
-    beyond : drop (i + 1) ys ≡ drop (i + 1) xs
-    beyond =
+    next : (r : Option T) → r ≡ rule x → filter_map rule (take (i + 1) xs) ≡ take k ys ++ cons_option r []
+    next r is_r =
         let l' : i < length xs = omega (arith, s.long) in
-        let a = drop_more ys i x l in
-        let b = drop_more xs i x l' in
-        let r = s.rest in
-        cc
+        ap (filter_map rule) (take_more xs i x l') ∙ filter_map-append rule (take i xs) (get_or xs i x ∷ [])
+        ∙ ap₂ (λ l y. l ++ cons_option (rule y) []) (sym s.front) both.0 ∙ ap (λ o. take k ys ++ cons_option o []) (sym is_r)
 
-    next : (b : Bool) → t x ≡ b → map f (filter t (take (i + 1) xs)) ≡ take k ys ++ map f (cond b (x ∷ []) [])
-    next b is_b =
-        let l' : i < length xs = omega (arith, s.long) in
-        ap (map f) (filter_more t xs i x l' ∙ ap (λ y. filter t (take i xs) ++ cond (t y) (y ∷ []) []) here)
-        ∙ map-append f (filter t (take i xs)) (cond (t x) (x ∷ []) [])
-        ∙ ap₂ (λ l b. l ++ map f (cond b (x ∷ []) [])) (sym s.front) is_b
-
-    pub sifting_passes : (y : T) → y ≡ f x → t x ≡ true → Sifting t f xs (set ys k y) (k + 1) (i + 1)
-    sifting_passes y changed e = record {
-      front = take_more_set ys k y (omega (arith, s.behind)) ∙ ap (λ z. take k ys ++ z ∷ []) changed ∙ sym (next true e);
-      rest = drop-set-lt (i + 1) ys k y (omega (arith, s.behind)) ∙ beyond;
+    pub sifting_some : (y : T) → Some y ≡ rule x → Sifting rule xs (set ys k y) (k + 1) (i + 1)
+    sifting_some y e = record {
+      front = take_more_set ys k y (omega (arith, s.behind)) ∙ sym (next (Some y) e);
+      rest = drop-set-lt (i + 1) ys k y (omega (arith, s.behind)) ∙ both.1;
       behind = omega (arith, s.behind);
       within = omega (arith, s.long);
       long = length-set ys k y ∙ s.long;
     }
 
-    pub sifting_goes : t x ≡ false → Sifting t f xs ys k (i + 1)
-    sifting_goes e = record {
-      front = sym (next false e ∙ append-nil (take k ys));
-      rest = beyond;
+    pub sifting_none : None ≡ rule x → Sifting rule xs ys k (i + 1)
+    sifting_none e = record {
+      front = sym (next None e ∙ append-nil (take k ys));
+      rest = both.1;
       behind = omega (arith, s.behind);
       within = omega (arith, s.long);
       long = s.long;
     }
 
-  module _ (xs ys : List T) (k i : ℕ) (s : Sifting t f xs ys k i) (done : length xs ≤ i) where
-    pub sifted : take k ys ≡ map f (filter t xs)
-    sifted = s.front ∙ ap (λ l. map f (filter t l)) (take_all i xs done)
+  -- at the end the places behind are emptied
+  module _ (xs ys : List T) (k i : ℕ) (s : Sifting rule xs ys k i) (done : length xs ≤ i) where
+    sifted : take k ys ≡ filter_map rule xs
+    sifted = s.front ∙ ap (filter_map rule) (take_all i xs done)
 
-    pub sifted_count : k ≡ length (map f (filter t xs))
-    sifted_count = sym (length-take-le k ys (omega (arith, s.long, s.behind, s.within))) ∙ ap length sifted
+    count : k ≡ length (filter_map rule xs)
+    count = sym (length-take-le k ys (omega (arith, s.long, s.behind, s.within))) ∙ ap length sifted
 
-    -- the places behind are emptied
-    pub sifted_padded : (e : T) (zs : List T) → zs ≡ replicate (length (take (length ys - k) (drop k ys))) e → put_mid k (length ys - k) ys zs ≡ padded (length xs) e (map f (filter t xs))
-    sifted_padded e zs is =
+    pub compacted : (e : T) (zs : List T) → zs ≡ replicate (length (take (length ys - k) (drop k ys))) e
+        → Compacted e (filter_map rule xs) xs k (put_mid k (length ys - k) ys zs)
+    compacted e zs is =
         let none : post_of k (length ys - k) ys ≡ [] = drop-drop (length ys - k) k ys ∙ drop_all (k + (length ys - k)) ys (omega arith) in
-        let many : length (take (length ys - k) (drop k ys)) ≡ length xs - length (map f (filter t xs)) =
-        length-take-le (length ys - k) (drop k ys) (omega (arith, length-drop k ys)) ∙ omega (arith, sifted_count, s.long) in
-        ap (λ l. take k ys ++ (zs ++ l)) none ∙ ap (λ l. take k ys ++ l) (append-nil zs ∙ is ∙ ap (λ n. replicate n e) many)
-        ∙ ap (λ l. l ++ replicate (length xs - length (map f (filter t xs))) e) sifted
+        let many : length (take (length ys - k) (drop k ys)) ≡ length xs - length (filter_map rule xs) =
+        length-take-le (length ys - k) (drop k ys) (omega (arith, length-drop k ys)) ∙ omega (arith, count, s.long) in
+        record {
+          left = count;
+          after = ap (λ l. take k ys ++ (zs ++ l)) none ∙ ap (λ l. take k ys ++ l) (append-nil zs ∙ is ∙ ap (λ n. replicate n e) many)
+              ∙ ap (λ l. l ++ replicate (length xs - length (filter_map rule xs)) e) sifted;
+        }
+
+-- a rule that tests and changes leaves the changes of those that pass
+module _ {T : Type 0} (t : T → Bool) where
+  abbrev pub where_passes : (T → T) → T → Option T
+  where_passes f x = cond (t x) (Some (f x)) None
+
+  filter_map_test : (f : T → T) (xs : List T) → filter_map (where_passes f) xs ≡ map f (filter t xs)
+  filter_map_test f [] = refl
+  filter_map_test f (x ∷ xs) = go (t x) (filter_map_test f xs)
+    where
+      go : (b : Bool) → filter_map (where_passes f) xs ≡ map f (filter t xs)
+          → cons_option (cond b (Some (f x)) None) (filter_map (where_passes f) xs) ≡ map f (cond b (x ∷ filter t xs) (filter t xs))
+      go true e = ap (λ l. f x ∷ l) e
+      go false e = e
+
+  pub compacted_test : (f : T → T) {e : T} {xs ys : List T} {r : ℕ} → Compacted e (filter_map (where_passes f) xs) xs r ys → Compacted e (map f (filter t xs)) xs r ys
+  compacted_test f {e} {xs} {ys} {r} = subst (λ l. Compacted e l xs r ys) (filter_map_test f xs)
+
+  pub compacted_filter : {e : T} {xs ys : List T} {r : ℕ} → Compacted e (filter_map (where_passes (λ x. x)) xs) xs r ys → Compacted e (filter t xs) xs r ys
+  compacted_filter {e} {xs} {ys} {r} c = subst (λ l. Compacted e l xs r ys) (map-id (filter t xs)) (compacted_test (λ x. x) c)

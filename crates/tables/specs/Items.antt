@@ -10,3 +10,8 @@ items t = take t.count t.records
 abbrev pub Added : {T V E : Type 0} → ℕ → List T → List T → List T → Result V E → Type 0
 Added room before more after r =
     MatchResult r (λ _. (length before + length more ≤ room) × (after ≡ before ++ more)) (λ _. (room < length before + length more) × (after ≡ before))
+
+-- a table after a change: these are in use now, and its empty record is what it was
+pub record Becomes {T : Type 0} {N : ℕ} (before after : Table T N) (xs : List T) : Type 0 where
+  pub becomes : items after ≡ xs
+  pub spare : after.empty ≡ before.empty

@@ -1,4 +1,3 @@
-pub mod Empty
 pub mod Ended
 pub mod Items
 pub mod Within

@@ -1,9 +1,8 @@
 -- Room: how many records a place may have.
-use Rattle.std.specs.Prelude.{ℕ, ◌≤◌, List, length, Some, None, Option, nat_eq, slice_index_or}
+use Rattle.std.specs.Prelude.{ℕ, ◌≤◌, List, length, Some, None, Option, nat_eq, slice_index_or, filter}
 use Rattle.protocol.specs.declared.assumptions.Execution.{Execution}
 use Rattle.protocol.specs.declared.holdings.Holding.{Holding}
 use Rattle.protocol.specs.declared.jobs.Job.{Job}
-use Rattle.protocol.specs.Lists.{keep}
 
 -- the job of an execution
 abbrev pub job_of_execution : Execution → ℕ
@@ -15,7 +14,7 @@ job_of_holding h = h.job
 
 -- how many records name place p
 abbrev pub count : {A : Type 0} → (A → ℕ) → ℕ → List A → ℕ
-count job p xs = length (keep (λ x. nat_eq (job x) p) xs)
+count job p xs = length (filter (λ x. nat_eq (job x) p) xs)
 
 -- the room of a place: none where no job runs
 abbrev pub room : ℕ → Option Job → ℕ

@@ -1,8 +1,10 @@
 // What is left of records once a job has ended.
-ghost use Rattle.std.specs.Prelude.{◌≡◌, ℕ, ◌<◌, ◌≤◌, not, ◌&&◌, List, map, length, replicate, ◌==◌};
+// The type Assumption is of the crate protocol: a trait of its own for its methods here would be no plainer than functions.
+ghost use Rattle.std.specs.Prelude.{◌≡◌, ℕ, ◌<◌, ◌≤◌, not, ◌&&◌, Option, List, length, replicate, ◌==◌};
+ghost use Rattle.std.specs.List.{filter_map};
 ghost use Rattle.protocol.specs.Places.{single, without};
 ghost use Rattle.protocol.specs.Settling.{survives, settled};
-ghost use Rattle.tables.specs.Ended.{others, settled_records, padded};
+ghost use Rattle.tables.specs.Ended.{others, settled_records, Compacted};
 
 use super::records::{Assuming, NamesJob};
 use protocol::{Assumption, Ending, PlaceSet};
@@ -18,6 +20,7 @@ fn survives(assumption: Assumption, place: u8, ending: Ending) -> bool
 }
 
 // The set without the job.
+#[tactic(auto, using(crate::proofs::PlaceLaws::without_placed))]
 fn without(set: PlaceSet, place: u8) -> PlaceSet
     ensures { result.mask ≡ without set.mask (single place) }
 {
@@ -49,44 +52,48 @@ fn stays<T: Assuming>(record: &T, place: u8, ending: Ending) -> bool
 }
 
 // Empties every place.
+// The slice method `fill` asks for a clone that cannot fail, which a type that is `Copy` does not promise.
 fn refill<T: Copy>(records: &mut [T], empty: T)
     ensures { records.new ≡ replicate (length records.old) empty }
 {
-    for i in 0..records.len() {
-        records[i] = empty;
+    for place in records.iter_mut() {
+        *place = empty;
     }
 }
 
-// Drops the records of an ended job and those that took it to end the other way, and takes it out of the rest; answers how many are left.
-pub fn settle<T: Assuming>(records: &mut [T], empty: T, place: u8, ending: Ending) -> usize
-    ensures left { result ≡ length (settled_records T.NamesJob.named T.Assuming.taken T.Assuming.assuming ending place records.old) }
-    ensures after { records.new ≡ padded (length records.old) empty (settled_records T.NamesJob.named T.Assuming.taken T.Assuming.assuming ending place records.old) }
+// Moves to the front, in order, what is left of each record, and empties the places behind; answers how many are left.
+// No method of slices drops records where they stand, so the loop writes at a place that it counts.
+fn compact<T: Copy, F: Fn(T) -> Option<T>>(records: &mut [T], empty: T, left: F) -> usize
+    requires { F.IsAlwaysCallable left }
+    ensures { (rule : T → Option T) → ((x : T) (r : Option T) → F.post left x r → r ≡ rule x) → Compacted empty (filter_map rule records.old) records.old result records.new }
 {
     let mut live = 0;
     for i in 0..records.len() {
-        let record = records[i];
-        if stays(&record, place, ending) {
-            records[live] = record.assume(settled(record.assumption(), place));
-            live += 1;
-        }
-    }
-    refill(&mut records[live..], empty);
-    live
-}
-
-// Drops the records of an ended job; answers how many are left.
-pub fn remove_job<T: NamesJob>(records: &mut [T], empty: T, place: u8) -> usize
-    ensures left { result ≡ length (others T.NamesJob.named place records.old) }
-    ensures after { records.new ≡ padded (length records.old) empty (others T.NamesJob.named place records.old) }
-{
-    let mut live = 0;
-    for i in 0..records.len() {
-        let record = records[i];
-        if is_other(&record, place) {
+        if let Some(record) = left(records[i]) {
             records[live] = record;
             live += 1;
         }
     }
     refill(&mut records[live..], empty);
     live
+}
+
+// Drops the records of an ended job and those that took it to end the other way, and takes it out of the rest; answers how many are left.
+pub fn settle<T: Assuming>(records: &mut [T], empty: T, place: u8, ending: Ending) -> usize
+    ensures { Compacted empty (settled_records T.NamesJob.named T.Assuming.taken T.Assuming.assuming ending place records.old) records.old result records.new }
+{
+    compact(records, empty, |record| {
+        stays(&record, place, ending).then_some(record.assume(settled(record.assumption(), place)))
+    })
+}
+
+// Drops the records of an ended job; answers how many are left.
+pub fn remove_job<T: NamesJob>(records: &mut [T], empty: T, place: u8) -> usize
+    ensures { Compacted empty (others T.NamesJob.named place records.old) records.old result records.new }
+{
+    compact(
+        records,
+        empty,
+        |record| is_other(&record, place).then_some(record),
+    )
 }

@@ -1,7 +1,9 @@
 // A table: room for N records, of which the first `count` are in use, in order, and the rest are empty.
+// An array and a count, and no vector: a book's memory is of one fixed size, and a new book's arrays are written out as `[EMPTY; 256]`.
 ghost use Rattle.std.specs.Prelude.{◌≡◌, ℕ, ◌-◌, ◌≤◌, length, drop, replicate};
 
 mod access;
+mod ending;
 mod executions;
 mod holdings;
 mod versions;
@@ -18,5 +20,5 @@ pub struct Table<T, const N: usize> {
 }
 
 // The table has no room for it.
-#[derive(Clone, Copy)]
+#[derive(Clone, Copy, PartialEq, Eq, Debug)]
 pub struct Full;

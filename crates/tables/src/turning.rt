@@ -8,21 +8,20 @@ use protocol::{Holding, HoldingState};
 fn turned(holding: Holding, place: u8, object: u64) -> Holding
     ensures { result ≡ turn place object holding }
 {
-    if holding.job != place || holding.object != object {
-        return holding;
+    match holding.state {
+        HoldingState::Open if holding.job == place && holding.object == object => Holding {
+            state: HoldingState::Turned,
+            ..holding
+        },
+        _ => holding,
     }
-    let state = match holding.state {
-        HoldingState::Reading => HoldingState::Reading,
-        HoldingState::Open | HoldingState::Turned => HoldingState::Turned,
-    };
-    Holding { state, ..holding }
 }
 
 // Turns the job's open holding of the object.
 pub fn turn(holdings: &mut [Holding], place: u8, object: u64)
     ensures { holdings.new ≡ map (turn place object) holdings.old }
 {
-    for i in 0..holdings.len() {
-        holdings[i] = turned(holdings[i], place, object);
+    for holding in holdings.iter_mut() {
+        *holding = turned(*holding, place, object);
     }
 }

@@ -9,4 +9,4 @@ pub mod stores;
 pub use calls::Call;
 pub use modes::Mode;
 pub use rules::JobRule;
-pub use stores::Store;
+pub use stores::{MOST_OBJECTS, Store};

@@ -1,4 +1,4 @@
-// A job rule, by what its four functions mean.
+// A job rule, by what its four functions mean. They take plain numbers and no struct, since users read the four as they stand.
 ghost use Rattle.std.specs.Prelude.{◌≡◌};
 ghost use Rattle.terms.specs.Rule.{Rule};
 

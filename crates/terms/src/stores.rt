@@ -2,6 +2,9 @@
 ghost use Rattle.std.specs.Prelude.{◌≡◌, ℕ, ◌≤◌, List, length, slice_set};
 ghost use Rattle.terms.specs.Objects.{value_at, has_object};
 
+// The most objects that a store has.
+pub const MOST_OBJECTS: usize = 65536;
+
 pub trait Store {
     // The values of the objects 0, 1, 2, ..
     ghost values: { Self → List ℕ };

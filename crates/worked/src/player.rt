@@ -6,80 +6,63 @@ use std::io;
 use stores::TableStore;
 use terms::{Call, Mode, Store};
 
-fn ask(rt: &HostRuntime, book: &mut Book, store: &mut TableStore, call: Call) -> io::Result<()> {
-    let number = match book.call(store, &ChargeRule, call) {
-        Ok(()) => 0,
-        Err(refusal) => refusal.number(),
-    };
-    println!(rt; "  {call:?}: {number}")
+#[derive(Drop)]
+struct Player<'a> {
+    rt: &'a HostRuntime,
+    book: Book,
+    store: TableStore,
 }
 
-// A job locks an object to write, and images it.
-fn make(
-    rt: &HostRuntime,
-    book: &mut Book,
-    store: &mut TableStore,
-    place: u64,
-    object: u64,
-) -> io::Result<()> {
-    ask(
-        rt,
-        book,
-        store,
-        Call::Lock {
+impl Player<'_> {
+    fn ask(&mut self, call: Call) -> io::Result<()> {
+        let number = match self.book.call(&mut self.store, &ChargeRule, call) {
+            Ok(()) => 0,
+            Err(refusal) => u8::from(refusal),
+        };
+        println!(self.rt; "  {call:?}: {number}")
+    }
+
+    // A job locks an object to write, and images it.
+    fn make(&mut self, place: u64, object: u64) -> io::Result<()> {
+        self.ask(Call::Lock {
             place,
             object,
             mode: Mode::Write,
-        },
-    )?;
-    ask(rt, book, store, Call::Image { place, object })
-}
+        })?;
+        self.ask(Call::Image { place, object })
+    }
 
-fn crowd(
-    rt: &HostRuntime,
-    book: &mut Book,
-    store: &mut TableStore,
-    place: u8,
-    object: u8,
-) -> io::Result<()> {
-    for next in 0..5u8 {
-        let place = u64::from(place) + u64::from(next);
-        ask(
-            rt,
-            book,
-            store,
-            Call::Begin {
-                place,
+    // Five jobs in turn make the object, and the last of them the next seven objects too.
+    fn crowd(&mut self, place: u8, object: u8) -> io::Result<()> {
+        let place = u64::from(place);
+        let object = u64::from(object);
+        for next in 0..5u64 {
+            self.ask(Call::Begin {
+                place: place + next,
                 kind: 1,
                 argument: 1,
-            },
-        )?;
-        make(rt, book, store, place, u64::from(object))?;
+            })?;
+            self.make(place + next, object)?;
+        }
+        for next in 1..8u64 {
+            self.make(place + 4, object + next)?;
+        }
+        Ok(())
     }
-    for next in 1..8u8 {
-        make(
-            rt,
-            book,
-            store,
-            u64::from(place) + 4,
-            u64::from(object) + u64::from(next),
-        )?;
-    }
-    Ok(())
-}
 
-fn take(rt: &HostRuntime, book: &mut Book, store: &mut TableStore, step: Step) -> io::Result<()> {
-    match step {
-        Step::Ask(call) => ask(rt, book, store, call),
-        Step::Count(place) => {
-            let count = book.execution_count(place);
-            println!(rt; "  job {place} has {count}")
+    fn take(&mut self, step: Step) -> io::Result<()> {
+        match step {
+            Step::Ask(call) => self.ask(call),
+            Step::Count(place) => {
+                let count = self.book.execution_count(place);
+                println!(self.rt; "  job {place} has {count}")
+            }
+            Step::Show(object) => {
+                let value = self.store.read(object).unwrap_or(0);
+                println!(self.rt; "  object {object} is {value}")
+            }
+            Step::Crowd { place, object } => self.crowd(place, object),
         }
-        Step::Show(object) => {
-            let value = store.read(object).unwrap_or(0);
-            println!(rt; "  object {object} is {value}")
-        }
-        Step::Crowd { place, object } => crowd(rt, book, store, place, object),
     }
 }
 
@@ -91,16 +74,17 @@ pub(crate) fn play(
     steps: &[Step],
 ) -> io::Result<()> {
     println!(rt; "{title}, robustness {robustness}, limit {limit}")?;
-    let mut store = TableStore::zeroed(rt.alloc(), 20)?;
-    let mut book = match Book::new(robustness, limit) {
+    let store = TableStore::zeroed(rt.alloc(), 20)?;
+    let book = match Book::new(robustness, limit) {
         Ok(book) => book,
         Err(refusal) => {
-            let number = refusal.number();
+            let number = u8::from(refusal);
             return println!(rt; "  no book: {number}");
         }
     };
+    let mut player = Player { rt, book, store };
     for step in steps {
-        take(rt, &mut book, &mut store, *step)?;
+        player.take(*step)?;
     }
     Ok(())
 }

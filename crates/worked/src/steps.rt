@@ -24,20 +24,20 @@ pub(crate) fn begin(place: u64) -> Step {
     begin_as(place, 1, 1)
 }
 
-pub(crate) fn read(place: u64, object: u64) -> Step {
+fn lock(place: u64, object: u64, mode: Mode) -> Step {
     Step::Ask(Call::Lock {
         place,
         object,
-        mode: Mode::Read,
+        mode,
     })
 }
 
+pub(crate) fn read(place: u64, object: u64) -> Step {
+    lock(place, object, Mode::Read)
+}
+
 pub(crate) fn write(place: u64, object: u64) -> Step {
-    Step::Ask(Call::Lock {
-        place,
-        object,
-        mode: Mode::Write,
-    })
+    lock(place, object, Mode::Write)
 }
 
 pub(crate) fn image(place: u64, object: u64) -> Step {

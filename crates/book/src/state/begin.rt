@@ -7,8 +7,9 @@ ghost use Rattle.protocol.specs.Model.{new, job_at};
 ghost use Rattle.protocol.specs.Step.{new_refusals};
 ghost use Rattle.book.specs.View.{view, Follows};
 
+use super::super::place::Place;
 use super::Book;
-use protocol::{Assumption, Execution, Holding, Job, Refusal};
+use protocol::{Execution, Holding, Job, Refusal};
 use tables::Table;
 use terms::JobRule;
 
@@ -33,23 +34,17 @@ impl Book {
         })
     }
 
-    // Whether a job may begin there.
-    fn may_begin<R: JobRule>(&self, rule: &R, place: u64, kind: u64) -> Result<(), Refusal>
-        ensures { MatchResult result (λ _. (first (begin_refusals (R.JobRule.means rule.now) (view [] self.now) place kind) ≡ None) × (job_at (view [] self.now) place ≡ None) × (place < 16) × (kind < 256)) (λ e. first (begin_refusals (R.JobRule.means rule.now) (view [] self.now) place kind) ≡ Some e) }
+    // The kind, where a job of it may begin there.
+    fn may_begin<R: JobRule>(&self, rule: &R, place: Place, kind: u64) -> Result<u8, Refusal>
+        ensures { MatchResult result (λ k. (first (begin_refusals (R.JobRule.means rule.now) (view [] self.now) place.number kind) ≡ None) × (job_at (view [] self.now) place.number ≡ None) × (k ≡ kind)) (λ e. first (begin_refusals (R.JobRule.means rule.now) (view [] self.now) place.number kind) ≡ Some e) }
     {
-        if place > 15 {
-            return Err(Refusal::NoSuchPlace);
-        }
-        if let Some(_) = self.jobs[place as usize] {
+        if self.job(u64::from(place.number)).is_some() {
             return Err(Refusal::PlaceTaken);
         }
-        if kind > 255 {
-            return Err(Refusal::UnknownKind);
+        match u8::try_from(kind) {
+            Ok(kind) if rule.knows(kind) => Ok(kind),
+            _ => Err(Refusal::UnknownKind),
         }
-        if !rule.knows(kind as u8) {
-            return Err(Refusal::UnknownKind);
-        }
-        Ok(())
     }
 
     // A job starts at a place, with one execution that takes nothing.
@@ -62,17 +57,15 @@ impl Book {
     ) -> Result<(), Refusal>
         ensures { (values : List ℕ) → Follows (R.JobRule.means rule.now) (view values self.old) (Begin place kind argument) result (view values self.new) }
     {
-        self.may_begin(rule, place, kind)?;
-        let kind = kind as u8;
-        let work = rule.start(kind, argument);
-        let _ = self.executions.push(Execution {
-            job: place as u8,
-            assumes: Assumption::EMPTY,
-            work,
-            tally: 0,
-            met: [0; 8],
-        });
-        self.jobs[place as usize] = Some(Job { kind, argument });
+        let here = Place::try_from(place)?;
+        let kind = self.may_begin(rule, here, kind)?;
+        let first = Execution {
+            job: here.number,
+            work: rule.start(kind, argument),
+            ..Execution::EMPTY
+        };
+        self.executions.push(first).unwrap();
+        self.jobs[here.number as usize] = Some(Job { kind, argument });
         Ok(())
     }
 }

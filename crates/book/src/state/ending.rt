@@ -1,13 +1,14 @@
 // A job ends.
-ghost use Rattle.std.specs.Prelude.{◌≡◌, ℕ, ◌<◌, List, [], ◌++◌, Some, None, MatchResult};
+ghost use Rattle.std.specs.Prelude.{◌≡◌, ℕ, List, [], ◌++◌, Some, None, MatchResult};
 ghost use Rattle.terms.specs.declared.calls.Call.TheVariants.{Abort, Commit};
 ghost use Rattle.terms.specs.Rule.{Rule};
 ghost use Rattle.protocol.specs.Ending.{commit_barred};
 ghost use Rattle.protocol.specs.Lists.{first};
-ghost use Rattle.protocol.specs.Lock.{no_job, no_live_job};
+ghost use Rattle.protocol.specs.Lock.{no_live_job};
 ghost use Rattle.protocol.specs.Settling.{settle};
 ghost use Rattle.book.specs.View.{view, Follows};
 
+use super::super::place::Place;
 use super::super::writing::write_made;
 use super::Book;
 use holders::{has_open, waits_of};
@@ -16,48 +17,35 @@ use terms::Store;
 
 impl Book {
     // The job leaves, and is settled.
-    fn end(&mut self, place: u8, ending: Ending)
-        requires { place < 16 }
-        ensures { (values written : List ℕ) → view written self.new ≡ settle ending place written (view values self.old) }
+    fn end(&mut self, place: Place, ending: Ending)
+        ensures { (values written : List ℕ) → view written self.new ≡ settle ending place.number written (view values self.old) }
     {
-        self.jobs[place as usize] = None;
-        self.holdings.remove_job(place);
-        self.executions.settle(place, ending);
-        self.versions.settle(place, ending);
-    }
-
-    // Whether a job runs there.
-    fn runs(&self, place: u64) -> Result<(), Refusal>
-        ensures { MatchResult result (λ _. (first (no_job (view [] self.now) place) ≡ None) × (place < 16)) (λ e. first (no_job (view [] self.now) place) ≡ Some e) }
-    {
-        if place > 15 {
-            return Err(Refusal::NoSuchPlace);
-        }
-        match self.jobs[place as usize] {
-            Some(_) => Ok(()),
-            None => Err(Refusal::NoJob),
-        }
+        self.jobs[place.number as usize] = None;
+        self.holdings.remove_job(place.number);
+        self.executions.settle(place.number, ending);
+        self.versions.settle(place.number, ending);
     }
 
     // A job is given up, and the store is untouched.
     pub fn abort(&mut self, place: u64) -> Result<(), Refusal>
         ensures { (rule : Rule) (values : List ℕ) → Follows rule (view values self.old) (Abort place) result (view values self.new) }
     {
-        self.runs(place)?;
-        self.end(place as u8, Ending::Aborted);
+        let here = Place::try_from(place)?;
+        self.running(here)?;
+        self.end(here, Ending::Aborted);
         Ok(())
     }
 
     // Whether a job may commit.
-    fn may_commit(&self, place: u64) -> Result<(), Refusal>
-        ensures { MatchResult result (λ _. (first (no_live_job (view [] self.now) place) ≡ None) × (first (commit_barred (view [] self.now) place) ≡ None) × (place < 16)) (λ e. first (no_live_job (view [] self.now) place ++ commit_barred (view [] self.now) place) ≡ Some e) }
+    fn may_commit(&self, place: Place) -> Result<(), Refusal>
+        ensures { MatchResult result (λ _. (first (no_live_job (view [] self.now) place.number) ≡ None) × (first (commit_barred (view [] self.now) place.number) ≡ None)) (λ e. first (no_live_job (view [] self.now) place.number ++ commit_barred (view [] self.now) place.number) ≡ Some e) }
     {
-        let _job = self.live_job(place)?;
+        self.live_job(place)?;
         let holdings = self.holdings.in_use();
-        if has_open(holdings, place as u8) {
+        if has_open(holdings, place.number) {
             return Err(Refusal::HasOpen);
         }
-        if !waits_of(holdings, place as u8).is_empty() {
+        if !waits_of(holdings, place.number).is_empty() {
             return Err(Refusal::Waits);
         }
         Ok(())
@@ -67,9 +55,14 @@ impl Book {
     pub fn commit<S: Store>(&mut self, store: &mut S, place: u64) -> Result<(), Refusal>
         ensures { (rule : Rule) → Follows rule (view (S.Store.values store.old) self.old) (Commit place) result (view (S.Store.values store.new) self.new) }
     {
-        self.may_commit(place)?;
-        let here = place as u8;
-        write_made(store, self.holdings.in_use(), self.versions.in_use(), here);
+        let here = Place::try_from(place)?;
+        self.may_commit(here)?;
+        write_made(
+            store,
+            self.holdings.in_use(),
+            self.versions.in_use(),
+            here.number,
+        );
         self.end(here, Ending::Committed);
         Ok(())
     }

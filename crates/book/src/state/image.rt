@@ -1,55 +1,28 @@
 // A job's open holding is turned, and each of its executions makes a version.
-ghost use Rattle.std.specs.Prelude.{◌≡◌, ℕ, ◌+◌, ◌<◌, ◌≤◌, List, [], ◌++◌, map, length, Some, None, MatchResult};
+ghost use Rattle.std.specs.Prelude.{◌≡◌, ℕ, List, [], ◌++◌, Some, None, MatchResult};
 ghost use Rattle.terms.specs.declared.calls.Call.TheVariants.{Image};
-ghost use Rattle.protocol.specs.Image.{image_barred, version_by};
-ghost use Rattle.protocol.specs.Lists.{first, keep};
+ghost use Rattle.protocol.specs.Image.{image_barred};
+ghost use Rattle.protocol.specs.Lists.{first};
 ghost use Rattle.protocol.specs.Lock.{no_live_job};
-ghost use Rattle.protocol.specs.Model.{job_at, names};
-ghost use Rattle.tables.specs.Items.{items};
+ghost use Rattle.protocol.specs.Model.{job_at};
 ghost use Rattle.book.specs.View.{view, Follows};
 
-use super::super::making::version_of;
-use super::super::searching::count_of;
+use super::super::making::Making;
+use super::super::place::Place;
 use super::Book;
 use holders::{find_open, position};
-use protocol::{Execution, Job, Refusal, Version};
-use tables::Table;
+use protocol::{Job, Refusal};
 use terms::{JobRule, Store};
-
-// What the job's executions make, in order.
-fn made_by<R: JobRule>(
-    rule: &R,
-    executions: &[Execution],
-    place: u8,
-    job: Job,
-    object: u64,
-    met: usize,
-) -> Table<Version, 16>
-    requires { (met < 8) × ((place < 16) × (length (keep (names place) executions.now) ≤ 16)) }
-    ensures { items result ≡ map (version_by (R.JobRule.means rule.now) (Some job) object met) (keep (names place) executions.now) }
-{
-    let mut all = Table::new(Version::EMPTY);
-    for execution in executions {
-        if execution.job == place {
-            let _ = all.push(version_of(rule, job, object, met, execution));
-        }
-    }
-    all
-}
 
 impl Book {
     // The job, where it may image the object.
-    fn may_image<S: Store>(&self, store: &S, place: u64, object: u64) -> Result<Job, Refusal>
-        ensures { MatchResult result (λ j. (first (no_live_job (view (S.Store.values store.now) self.now) place) ≡ None) × (first (image_barred (view (S.Store.values store.now) self.now) place object) ≡ None) × (job_at (view [] self.now) place ≡ Some j) × (place < 16)) (λ e. first (no_live_job (view (S.Store.values store.now) self.now) place ++ image_barred (view (S.Store.values store.now) self.now) place object) ≡ Some e) }
+    fn may_image<S: Store>(&self, store: &S, place: Place, object: u64) -> Result<Job, Refusal>
+        ensures { MatchResult result (λ j. (first (no_live_job (view (S.Store.values store.now) self.now) place.number) ≡ None) × (first (image_barred (view (S.Store.values store.now) self.now) place.number object) ≡ None) × (job_at (view [] self.now) place.number ≡ Some j)) (λ e. first (no_live_job (view (S.Store.values store.now) self.now) place.number ++ image_barred (view (S.Store.values store.now) self.now) place.number object) ≡ Some e) }
     {
         let job = self.live_job(place)?;
-        let here = place as u8;
-        if store.read(object).is_none() {
-            return Err(Refusal::NoSuchObject);
-        }
-        find_open(self.holdings.in_use(), here, object)?;
-        let count = count_of(self.executions.in_use(), here);
-        if count > 256 - self.versions.in_use().len() {
+        store.read(object).ok_or(Refusal::NoSuchObject)?;
+        find_open(self.holdings.in_use(), place.number, object)?;
+        if self.execution_count(u64::from(place.number)) > 256 - self.versions.len() {
             return Err(Refusal::TooManyVersions);
         }
         Ok(job)
@@ -65,12 +38,19 @@ impl Book {
     ) -> Result<(), Refusal>
         ensures { Follows (R.JobRule.means rule.now) (view (S.Store.values store.now) self.old) (Image place object) result (view (S.Store.values store.now) self.new) }
     {
-        let job = self.may_image(store, place, object)?;
-        let here = place as u8;
-        let met = position(self.holdings.in_use(), here, object);
-        let made = made_by(rule, self.executions.in_use(), here, job, object, met);
-        let _ = self.versions.extend(made.in_use());
-        self.holdings.turn(here, object);
+        let here = Place::try_from(place)?;
+        let job = self.may_image(store, here, object)?;
+        let met = position(self.holdings.in_use(), here.number, object);
+        let making = Making {
+            rule,
+            place: here,
+            job,
+            object,
+            met,
+        };
+        let made = making.versions(self.executions.in_use());
+        self.versions.extend(made.in_use()).unwrap();
+        self.holdings.turn(here.number, object);
         Ok(())
     }
 }

@@ -1,46 +1,54 @@
 // A job locks an object.
 ghost use Rattle.std.specs.Prelude.{◌≡◌, ℕ, ◌<◌, ◌≤◌, List, [], Some, None, MatchResult, slice_index};
 ghost use Rattle.terms.specs.declared.calls.Call.TheVariants.{Lock};
-ghost use Rattle.protocol.specs.Holdings.{begins};
+ghost use Rattle.protocol.specs.Holdings.{locked};
 ghost use Rattle.protocol.specs.Lists.{first};
-ghost use Rattle.protocol.specs.Lock.{no_live_job, lock_barred};
+ghost use Rattle.protocol.specs.Lock.{no_job, no_live_job, lock_barred};
 ghost use Rattle.protocol.specs.Model.{job_at, holding_count};
 ghost use Rattle.protocol.specs.Pairing.{kept_pairs};
 ghost use Rattle.protocol.specs.Step.{answer};
 ghost use Rattle.tables.specs.Items.{items};
 ghost use Rattle.book.specs.View.{view, Follows};
 
-use super::super::meeting::Request;
-use super::super::offering::offers_of;
-use super::super::pairing::pair_up;
-use super::super::searching::count_of;
+use super::super::offering::Offering;
+use super::super::pairing::Found;
+use super::super::place::Place;
+use super::super::request::Request;
 use super::Book;
 use holders::{count_held, holds_object, is_open, would_ring};
 use protocol::{Execution, Holding, HoldingState, Job, Refusal};
 use tables::Table;
 use terms::{JobRule, Mode, Store};
 
-fn first_state(mode: Mode) -> HoldingState
-    ensures { result ≡ begins mode }
+// The holding with which a job locks an object.
+fn first_holding(place: Place, object: u64, mode: Mode) -> Holding
+    ensures { result ≡ locked place.number object mode }
 {
-    match mode {
-        Mode::Read => HoldingState::Reading,
-        Mode::Write => HoldingState::Open,
+    Holding {
+        job: place.number,
+        object,
+        // no From: neither type is of this crate
+        state: match mode {
+            Mode::Read => HoldingState::Reading,
+            Mode::Write => HoldingState::Open,
+        },
     }
 }
 
 impl Book {
-    // The job that runs at a place, and is not lost.
-    pub(super) fn live_job(&self, place: u64) -> Result<Job, Refusal>
-        ensures { MatchResult result (λ j. (first (no_live_job (view [] self.now) place) ≡ None) × (job_at (view [] self.now) place ≡ Some j) × (place < 16)) (λ e. first (no_live_job (view [] self.now) place) ≡ Some e) }
+    // The job that runs at a place.
+    pub(super) fn running(&self, place: Place) -> Result<Job, Refusal>
+        ensures { MatchResult result (λ j. (first (no_job (view [] self.now) place.number) ≡ None) × (job_at (view [] self.now) place.number ≡ Some j)) (λ e. first (no_job (view [] self.now) place.number) ≡ Some e) }
     {
-        if place > 15 {
-            return Err(Refusal::NoSuchPlace);
-        }
-        let Some(job) = self.jobs[place as usize] else {
-            return Err(Refusal::NoJob);
-        };
-        if count_of(self.executions.in_use(), place as u8) == 0 {
+        self.job(u64::from(place.number)).ok_or(Refusal::NoJob)
+    }
+
+    // The job that runs at a place, and is not lost.
+    pub(super) fn live_job(&self, place: Place) -> Result<Job, Refusal>
+        ensures { MatchResult result (λ j. (first (no_live_job (view [] self.now) place.number) ≡ None) × (job_at (view [] self.now) place.number ≡ Some j)) (λ e. first (no_live_job (view [] self.now) place.number) ≡ Some e) }
+    {
+        let job = self.running(place)?;
+        if self.execution_count(u64::from(place.number)) == 0 {
             return Err(Refusal::LostJob);
         }
         Ok(job)
@@ -50,33 +58,25 @@ impl Book {
     fn admit<S: Store>(
         &self,
         store: &S,
-        place: u8,
+        place: Place,
         object: u64,
         mode: Mode,
     ) -> Result<(u64, usize), Refusal>
-        requires { place < 16 }
-        ensures { MatchResult result (λ x. (first (lock_barred (view (S.Store.values store.now) self.now) place object mode) ≡ None) × (x.0 ≡ slice_index (S.Store.values store.now) object) × (x.1 ≡ holding_count (view [] self.now) place) × (x.1 < 8)) (λ e. first (lock_barred (view (S.Store.values store.now) self.now) place object mode) ≡ Some e) }
+        ensures { MatchResult result (λ x. (first (lock_barred (view (S.Store.values store.now) self.now) place.number object mode) ≡ None) × (x.0 ≡ slice_index (S.Store.values store.now) object) × (x.1 ≡ holding_count (view [] self.now) place.number) × (x.1 < 8)) (λ e. first (lock_barred (view (S.Store.values store.now) self.now) place.number object mode) ≡ Some e) }
     {
-        let Some(stored) = store.read(object) else {
-            return Err(Refusal::NoSuchObject);
-        };
+        let stored = store.read(object).ok_or(Refusal::NoSuchObject)?;
         let holdings = self.holdings.in_use();
-        if holds_object(holdings, place, object) {
+        if holds_object(holdings, place.number, object) {
             return Err(Refusal::AlreadyHeld);
         }
-        let held = count_held(holdings, place);
+        let held = count_held(holdings, place.number);
         if held >= 8 {
             return Err(Refusal::TooManyHeld);
         }
         if is_open(holdings, object) {
             return Err(Refusal::OpenElsewhere);
         }
-        let new = Holding {
-            job: place,
-            object,
-            state: first_state(mode),
-        };
-        if would_ring(holdings, &new) {
+        if would_ring(holdings, &first_holding(place, object, mode)) {
             return Err(Refusal::WouldWaitForItself);
         }
         Ok((stored, held))
@@ -87,42 +87,32 @@ impl Book {
         &self,
         store: &S,
         rule: &R,
-        place: u64,
+        place: Place,
         object: u64,
         mode: Mode,
     ) -> Result<Table<Execution, 16>, Refusal>
-        ensures { MatchResult result (λ t. (answer (R.JobRule.means rule.now) (view (S.Store.values store.now) self.now) (Lock place object mode) ≡ None) × (items t ≡ kept_pairs (R.JobRule.means rule.now) (view (S.Store.values store.now) self.now) place object mode)) (λ e. answer (R.JobRule.means rule.now) (view (S.Store.values store.now) self.now) (Lock place object mode) ≡ Some e) }
+        ensures { MatchResult result (λ t. (answer (R.JobRule.means rule.now) (view (S.Store.values store.now) self.now) (Lock place.number object mode) ≡ None) × (items t ≡ kept_pairs (R.JobRule.means rule.now) (view (S.Store.values store.now) self.now) place.number object mode)) (λ e. answer (R.JobRule.means rule.now) (view (S.Store.values store.now) self.now) (Lock place.number object mode) ≡ Some e) }
     {
         let job = self.live_job(place)?;
-        let here = place as u8;
-        let (stored, held) = self.admit(store, here, object, mode)?;
-        let offers = offers_of(
-            self.holdings.in_use(),
-            self.versions.in_use(),
-            object,
-            stored,
-        );
+        let (stored, held) = self.admit(store, place, object, mode)?;
+        let holdings = self.holdings.in_use();
+        let offering = Offering { holdings, object };
+        let offers = offering.offers(stored, self.versions.in_use());
         let request = Request {
-            place: here,
+            rule,
+            place,
             job,
             object,
             mode,
             held,
             robustness: self.robustness,
-            limit: self.limit,
         };
-        let mut found = Table::new(Execution::EMPTY);
-        pair_up(
-            &mut found,
-            rule,
-            request,
-            self.executions.in_use(),
-            offers.in_use(),
-        )?;
-        if found.in_use().is_empty() {
+        let mut found = Found::new(self.limit);
+        request.pair_up(&mut found, self.executions.in_use(), offers.in_use())?;
+        if found.pairs.in_use().is_empty() {
             return Err(Refusal::NoExecution);
         }
-        Ok(found)
+        Ok(found.pairs)
     }
 
     // A job comes to hold an object; its executions are those pairs of one with a value of the object that are kept.
@@ -136,15 +126,13 @@ impl Book {
     ) -> Result<(), Refusal>
         ensures { Follows (R.JobRule.means rule.now) (view (S.Store.values store.now) self.old) (Lock place object mode) result (view (S.Store.values store.now) self.new) }
     {
-        let found = self.weigh(store, rule, place, object, mode)?;
-        let here = place as u8;
-        let _ = self.holdings.push(Holding {
-            job: here,
-            object,
-            state: first_state(mode),
-        });
-        self.executions.remove_job(here);
-        let _ = self.executions.extend(found.in_use());
+        let here = Place::try_from(place)?;
+        let found = self.weigh(store, rule, here, object, mode)?;
+        self.holdings
+            .push(first_holding(here, object, mode))
+            .unwrap();
+        self.executions.remove_job(here.number);
+        self.executions.extend(found.in_use()).unwrap();
         Ok(())
     }
 }

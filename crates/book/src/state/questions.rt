@@ -1,7 +1,6 @@
 // Questions change nothing, and what is not there answers none.
-ghost use Rattle.std.specs.Prelude.{◌≡◌, ℕ, List, [], map, length};
+ghost use Rattle.std.specs.Prelude.{◌≡◌, ℕ, List, [], map, length, filter};
 ghost use Rattle.protocol.specs.Holdings.{held_by};
-ghost use Rattle.protocol.specs.Lists.{keep};
 ghost use Rattle.protocol.specs.Model.{job_at, holding_count, executions_of};
 ghost use Rattle.protocol.specs.Pairing.{of_object};
 ghost use Rattle.std.specs.List.{slice_get};
@@ -14,31 +13,35 @@ use protocol::{Assumption, Execution, Holding, Job, Version};
 use terms::Store;
 
 // A value that an object has or would have. The stored value has no maker.
-#[derive(Clone, Copy)]
+#[derive(Clone, Copy, PartialEq, Eq, Debug)]
 pub struct ObjectVersion {
     pub maker: Option<u8>,
     pub value: u64,
     pub assumes: Assumption,
 }
 
-// The n-th of the versions by running jobs.
-fn nth_made(versions: &[Version], object: u64, n: u64) -> Option<ObjectVersion>
-    ensures { result ≡ slice_get (map made_version (keep (of_object object) versions.now)) n }
-{
-    let mut left = n;
-    for version in versions {
-        if version.object == object {
-            if left == 0 {
-                return Some(ObjectVersion {
-                    maker: Some(version.maker),
-                    value: version.value,
-                    assumes: version.assumes,
-                });
-            }
-            left -= 1;
+// A version by a running job.
+impl From<&Version> for ObjectVersion {
+    ghost from_gives = { λ version made. made ≡ made_version version.now };
+
+    fn from(version: &Version) -> ObjectVersion {
+        ObjectVersion {
+            maker: Some(version.maker),
+            value: version.value,
+            assumes: version.assumes,
         }
     }
-    None
+}
+
+// The n-th of the versions by running jobs.
+fn nth_made(versions: &[Version], object: u64, n: u64) -> Option<ObjectVersion>
+    ensures { result ≡ slice_get (map made_version (filter (of_object object) versions.now)) n }
+{
+    versions
+        .iter()
+        .filter(|version| version.object == object)
+        .map(ObjectVersion::from)
+        .nth(n as usize)
 }
 
 impl Book {
@@ -46,50 +49,35 @@ impl Book {
     pub fn job(&self, place: u64) -> Option<Job>
         ensures { result ≡ job_at (view [] self.now) place }
     {
-        if place > 15 {
-            return None;
-        }
-        self.jobs[place as usize]
+        self.jobs.get(place as usize).copied().flatten()
     }
 
     // How many objects a job holds.
     pub fn holding_count(&self, place: u64) -> usize
         ensures { result ≡ holding_count (view [] self.now) place }
     {
-        if place > 15 {
-            return 0;
-        }
-        count_of(self.holdings.in_use(), place as u8)
+        count_of(self.holdings.in_use(), place)
     }
 
     // The n-th holding of a job, in the order of locking, from 0.
     pub fn holding(&self, place: u64, n: u64) -> Option<Holding>
-        ensures { result ≡ slice_get (keep (held_by place) (view [] self.now).holdings) n }
+        ensures { result ≡ slice_get (filter (held_by place) (view [] self.now).holdings) n }
     {
-        if place > 15 {
-            return None;
-        }
-        nth_of(self.holdings.in_use(), place as u8, n)
+        nth_of(self.holdings.in_use(), place, n)
     }
 
     // How many executions a job has.
     pub fn execution_count(&self, place: u64) -> usize
         ensures { result ≡ length (executions_of place (view [] self.now)) }
     {
-        if place > 15 {
-            return 0;
-        }
-        count_of(self.executions.in_use(), place as u8)
+        count_of(self.executions.in_use(), place)
     }
 
     // The n-th execution of a job, from 0.
     pub fn execution(&self, place: u64, n: u64) -> Option<Execution>
         ensures { result ≡ slice_get (executions_of place (view [] self.now)) n }
     {
-        if place > 15 {
-            return None;
-        }
-        nth_of(self.executions.in_use(), place as u8, n)
+        nth_of(self.executions.in_use(), place, n)
     }
 
     // The n-th version of an object, from 0, which is the stored value.
@@ -97,13 +85,13 @@ impl Book {
         ensures { result ≡ slice_get (object_versions (view (S.Store.values store.now) self.now) object) n }
     {
         let value = store.read(object)?;
-        if n == 0 {
-            return Some(ObjectVersion {
+        match n.checked_sub(1) {
+            Some(n) => nth_made(self.versions.in_use(), object, n),
+            None => Some(ObjectVersion {
                 maker: None,
                 value,
                 assumes: Assumption::EMPTY,
-            });
+            }),
         }
-        nth_made(self.versions.in_use(), object, n - 1)
     }
 }

@@ -22,8 +22,7 @@ impl<T: Copy, const N: usize> Table<T, N> {
     pub fn in_use(&self) -> &[T]
         ensures { result.now ≡ items self.now }
     {
-        let all = &self.records[..];
-        &all[..self.count]
+        &self.records[..self.count]
     }
 
     // How many are in use.
@@ -31,17 +30,6 @@ impl<T: Copy, const N: usize> Table<T, N> {
         ensures { result ≡ length (items self.now) }
     {
         self.in_use().len()
-    }
-
-    // Adds the record where there is room.
-    fn put(&mut self, record: T)
-        requires { self.old.count < N }
-        ensures becomes { items self.new ≡ items self.old ++ «record» ∷ [] }
-        ensures counts { self.new.count ≡ self.old.count + 1 }
-        ensures spare { self.new.empty ≡ self.old.empty }
-    {
-        self.records[self.count] = record;
-        self.count += 1;
     }
 
     // Adds the record behind the others.
@@ -52,7 +40,8 @@ impl<T: Copy, const N: usize> Table<T, N> {
         if self.count == N {
             return Err(Full);
         }
-        self.put(record);
+        self.records[self.count] = record;
+        self.count += 1;
         Ok(())
     }
 
@@ -64,9 +53,10 @@ impl<T: Copy, const N: usize> Table<T, N> {
         if N - self.count < more.len() {
             return Err(Full);
         }
-        for record in more {
-            self.put(*record);
-        }
+        let end = self.count + more.len();
+        let all = &mut self.records[..];
+        all[self.count..end].copy_from_slice(more);
+        self.count = end;
         Ok(())
     }
 }

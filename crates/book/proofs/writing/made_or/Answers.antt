@@ -1,17 +1,15 @@
-use Rattle.std.proofs.Common.{sym, ◌∙◌}
-use Rattle.std.proofs.lemmas.List.{at_drop_all}
-use Rattle.protocol.specs.Ending.{made_value}
-use Rattle.book.proofs.Written.{made_here, made_later}
+use Rattle.std.proofs.Common.{◌&&◌, eqb, ap, ◌∙◌, rules}
+use Rattle.std.specs.Option.{option_map_or}
+use Rattle.std.proofs.lemmas.Iterator.{YieldsList-from_slice}
+use Rattle.std.proofs.lemmas.Iterator.Search.{find_from_yields_List}
+use borrow.Author.Tests.{tests}
+use Rattle.protocol.specs.declared.assumptions.Version.{Version}
+use Rattle.book.proofs.Written.{or_else, found}
 use Rattle.book.proofs.writing.made_or.Goals as goal
-
-pub returns-then-is_made : goal.returns-then-is_made
-returns-then-is_made c =
-    sym (made_here c.args.place c.args.object c.args.other c.args.versions.now c.loop-version.version-index c.loop-version-test.true (sym c.if-is_made.ensures)) ∙ c.loop-version.invariant
-
-pub loop-version-preserved : goal.loop-version-preserved
-loop-version-preserved c =
-    sym (made_later c.args.place c.args.object c.args.other c.args.versions.now c.loop-version.version-index c.loop-version-test.true (sym c.if-is_made.ensures)) ∙ c.loop-version.invariant
 
 pub returns : goal.returns
 returns c =
-    sym (at_drop_all (λ vs. made_value c.args.place c.args.object vs c.args.other) c.args.versions.now c.loop-version.version-index c.loop-version-test.false) ∙ c.loop-version.invariant
+    or_else _ c.find.result c.args.other c.map_or.result c.map_or.ensures (λ v e. search rules)
+    ∙ ap (λ o. option_map_or (λ (v : Version). v.value) o c.args.other)
+    (find_from_yields_List (λ (v : Version). eqb v.maker c.args.place && eqb v.object c.args.object) _ _ c.find.result c.find.ensures.ran (YieldsList-from_slice c.args.versions.now cc) (λ x b q k. search (rules, tests)))
+    ∙ found c.args.place c.args.object c.args.other c.args.versions.now

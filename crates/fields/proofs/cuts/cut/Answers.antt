@@ -1,16 +1,15 @@
-use Rattle.std.proofs.Common.{arith, length-drop, length-take}
+use Rattle.std.proofs.Common.{sym, ◌∙◌}
 use Rattle.fields.proofs.Steps.{front_is, rest_is, whole_is}
 use Rattle.fields.proofs.cuts.cut.Goals as goal
 
-pub returns-then-end-text : goal.returns-then-end-text
-returns-then-end-text c =
-    let w = whole_is c.args.mark c.args.text.at c.find-end.result c.args.text.bytes.now c.find-end.ensures c.if-end-text.true in
-    record { front = w.0; back = w.1; inside = tt }
+pub returns-in-None-clause-front : goal.returns-in-None-clause-front
+returns-in-None-clause-front c = (whole_is c.args.mark c.args.text.at c.args.text.bytes.now (sym c.find.ensures ∙ c.in-None.is)).0
 
-pub returns : goal.returns
-returns c =
-    record {
-      front = front_is c.args.mark c.args.text.at c.find-end.result c.args.text.bytes.now c.find-end.ensures;
-      back = rest_is c.args.mark c.args.text.at c.find-end.result c.args.text.bytes.now c.find-end.ensures c.if-end-text.false;
-      inside = (simp (length-take, length-drop) (omega arith), simp (length-take, length-drop) (omega arith));
-    }
+pub returns-in-None-clause-back : goal.returns-in-None-clause-back
+returns-in-None-clause-back c = (whole_is c.args.mark c.args.text.at c.args.text.bytes.now (sym c.find.ensures ∙ c.in-None.is)).1
+
+pub returns-in-Some-clause-front : goal.returns-in-Some-clause-front
+returns-in-Some-clause-front c = front_is c.args.mark c.args.text.at c.args.text.bytes.now c.in-Some.end (sym c.find.ensures ∙ c.in-Some.is)
+
+pub returns-in-Some-clause-back : goal.returns-in-Some-clause-back
+returns-in-Some-clause-back c = rest_is c.args.mark c.args.text.at c.args.text.bytes.now c.in-Some.end (sym c.find.ensures ∙ c.in-Some.is)

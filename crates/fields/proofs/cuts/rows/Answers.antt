@@ -1,24 +1,18 @@
-use Rattle.std.proofs.Common.{◌++◌, map, vec_items, ap, ◌∙◌, arith}
-use Rattle.fields.specs.Places.{word_of, row_of, words}
-use Rattle.fields.proofs.Turns.{line_inside, rows_none, rows_more, rows_all}
+use Rattle.std.proofs.Common.{◌≡◌, map, vec_items, ap, ◌∙◌, rules}
+use Rattle.std.specs.Iterator.Adapters.{map_source}
+use Rattle.std.specs.Slice.Iter.{iter_rest}
+use Rattle.std.proofs.lemmas.Iterator.{YieldsList-from_slice}
+use Rattle.std.proofs.lemmas.Iterator.Adapters.{serves_from_places}
+use Rattle.fields.specs.Places.{word_of}
+use Rattle.fields.proofs.Turns.{line_inside, rows_collected}
 use Rattle.fields.proofs.cuts.rows.Goals as goal
 
-pub pieces-requires : goal.pieces-requires
-pieces-requires c =
-    omega (arith, line_inside c.args.script.now c.as_slice-line-items.result.now (vec_items c.in_ok-all.all) c.as_slice-line-items.ensures.value c.in_ok-all.ensures c.loop-line.line-index c.loop-line-test.true)
-
-pub loop-line-init : goal.loop-line-init
-loop-line-init c =
-    ap (λ l. map row_of l ++ map (words 44) (map word_of c.as_slice-line-items.result.now)) c.new-cut.ensures.items
-    ∙ rows_none c.args.script.now c.as_slice-line-items.result.now (vec_items c.in_ok-all.all) c.as_slice-line-items.ensures.value c.in_ok-all.ensures
-
-pub loop-line-preserved : goal.loop-line-preserved
-loop-line-preserved c =
-    rows_more c.args.script.now c.as_slice-line-items.result.now (vec_items c.in_ok-all.all) c.as_slice-line-items.ensures.value c.in_ok-all.ensures
-    (vec_items c.loop-line.cut) (vec_items c.push.new.self) c.in_ok-pieces.field-0 c.loop-line.line-index c.loop-line-test.true c.in_ok-push.ensures.items c.in_ok-pieces.ensures
-    ∙ c.loop-line.invariant
+pub try_collect-requires-clause-can : goal.try_collect-requires-clause-can
+try_collect-requires-clause-can c =
+    let lines = line_inside c.args.script.now (vec_items c.in_ok-lines.field-0) c.in_ok-lines.ensures in
+    (tt, serves_from_places (YieldsList-from_slice (vec_items c.in_ok-lines.field-0) (search rules)) (λ x q r. search rules) (λ x k h is. let l = lines x.now k h is in search (rules, l)))
 
 pub returns : goal.returns
 returns c =
-    rows_all c.args.script.now c.as_slice-line-items.result.now (vec_items c.in_ok-all.all) c.as_slice-line-items.ensures.value c.in_ok-all.ensures
-    (vec_items c.loop-line.cut) c.loop-line.line-index c.loop-line-test.false c.loop-line.invariant
+    let all : iter_rest (map_source c.map.result) ≡ vec_items c.in_ok-lines.field-0 = search rules in
+    rows_collected _ c.args.script.now c.map.result c.try_collect.result c.try_collect.ensures.ran (λ f l r q k. search rules) (ap (map word_of) all ∙ c.in_ok-lines.ensures)

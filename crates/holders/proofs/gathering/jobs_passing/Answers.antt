@@ -1,34 +1,17 @@
-use Rattle.std.proofs.Common.{◌≡◌, true, false, get_or}
+use Rattle.std.proofs.Common.{◌≡◌, ap, ◌∙◌, rules, of_calls}
+use Rattle.std.specs.Prelude.{filter, fold}
+use Rattle.protocol.specs.declared.places.PlaceSet.{PlaceSet}
+use Rattle.std.proofs.lemmas.Iterator.{YieldsList-from_slice}
+use Rattle.std.proofs.lemmas.Iterator.Consumers.{YieldsList-from_filter, fold_from_yields_List}
 use Rattle.protocol.specs.Holdings.{jobs_of}
-use Rattle.protocol.specs.Places.{single, join, placed}
-use Rattle.holders.specs.Placed.{blank}
-use Rattle.holders.proofs.Gathered.{gathered_none, gathered_more, gathered_skip, gathered_all}
-use Rattle.holders.proofs.Sets.{jobs_none, jobs_more}
+use Rattle.protocol.specs.Places.{placed}
+use Rattle.holders.proofs.Joins.{none_join}
+use Rattle.holders.proofs.Chains.{with_job, jobs_folded}
 use Rattle.holders.proofs.gathering.jobs_passing.Goals as goal
-use Rattle.holders.proofs.gathering.jobs_passing.Goals.{then-passes, else-passes}
-
-pub loop-holding-init : goal.loop-holding-init
-loop-holding-init g c =
-    let t = g.T.Predicate.test c.args.test.now in
-    gathered_none (jobs_of t) (λ h _. t h) (λ h. single h.job) (jobs_none t) (jobs_more t) c.args.holdings.now
-
-pub loop-holding-preserved : goal.loop-holding-preserved
-loop-holding-preserved g c =
-    let t = g.T.Predicate.test c.args.test.now in
-    let hs = c.args.holdings.now in
-    let i = c.loop-holding.holding-index in
-    let l = c.loop-holding-test.true in
-    elim c.if-passes.branch [
-      | then-passes w ↦
-          let e : t (get_or hs i blank) ≡ true = cc in
-          let j : w.joined-set.result.mask ≡ join c.loop-holding.set.mask (placed (single (get_or hs i blank).job)) = cc in
-          rw w.set-is (gathered_more (jobs_of t) (λ h _. t h) (λ h. single h.job) (jobs_none t) (jobs_more t) hs blank c.loop-holding.set.mask i c.loop-holding.invariant l w.joined-set.result.mask e j)
-      | else-passes w ↦
-          let e : t (get_or hs i blank) ≡ false = cc in
-          rw w.set-is (gathered_skip (jobs_of t) (λ h _. t h) (λ h. single h.job) (jobs_none t) (jobs_more t) hs blank c.loop-holding.set.mask i c.loop-holding.invariant l e)
-    ]
 
 pub returns : goal.returns
-returns g c =
-    let t = g.T.Predicate.test c.args.test.now in
-    gathered_all (jobs_of t) (λ h _. t h) (λ h. single h.job) (jobs_none t) (jobs_more t) c.args.holdings.now c.loop-holding.set.mask c.loop-holding.holding-index c.loop-holding.invariant c.loop-holding-test.false
+returns g c = λ test said.
+    let hs = c.args.holdings.now in
+    let folded : c.fold.result ≡ fold with_job (record { mask = 0 }) (filter test hs) =
+    fold_from_yields_List _ with_job _ _ c.fold.ensures.ran (YieldsList-from_filter _ test (YieldsList-from_slice hs cc) c.filter.ensures.closure (λ x r q k. search (rules, of_calls, said))) (λ a x b q k. search rules) in
+    ap (λ (set : PlaceSet). set.mask) folded ∙ jobs_folded test hs (record { mask = 0 }) ∙ none_join (placed (jobs_of test hs))

@@ -1,26 +1,18 @@
-use Rattle.std.proofs.Common.{arith}
-use Rattle.std.proofs.lemmas.List.{at_drop_all}
-use Rattle.protocol.specs.Holdings.{position}
-use Rattle.holders.proofs.Standing.{position_none, position_here, position_other, position_skip}
+use Rattle.std.proofs.Common.{not, eqb, ap, ◌∙◌, rules}
+use Rattle.std.proofs.lemmas.Iterator.{YieldsList-from_slice}
+use Rattle.std.proofs.lemmas.Iterator.Consumers.{YieldsList-from_filter, count_from_yields_List}
+use Rattle.std.proofs.lemmas.Iterator.Search.{YieldsList-from_take_while}
+use borrow.Author.Tests.{tests}
+use Rattle.protocol.specs.Holdings.{held_by}
+use Rattle.holders.proofs.Chains.{position_counted}
 use Rattle.holders.proofs.holders.position.Goals as goal
-use Rattle.holders.proofs.holders.position.Goals.{then-holding-place+else-holding-object, else-holding-place}
-
-pub returns-then-holding-object : goal.returns-then-holding-object
-returns-then-holding-object c =
-    omega (arith, c.loop-holding.invariant.1, position_here c.args.place c.args.object c.args.holdings.now c.loop-holding.holding-index c.loop-holding-test.true c.if-holding-place.true c.if-holding-object.true)
-
-pub loop-holding-preserved : goal.loop-holding-preserved
-loop-holding-preserved c =
-    let p = c.args.place in
-    let o = c.args.object in
-    let hs = c.args.holdings.now in
-    let i = c.loop-holding.holding-index in
-    let l = c.loop-holding-test.true in
-    elim c.if-holding-place.branch [
-      | then-holding-place+else-holding-object w ↦ rw w.count-is (omega arith, omega (arith, c.loop-holding.invariant.1, position_other p o hs i l w.if-holding-place.true w.if-holding-object.false))
-      | else-holding-place w ↦ rw w.count-is (omega arith, omega (arith, c.loop-holding.invariant.1, position_skip p o hs i l w.if-holding-place.false))
-    ]
 
 pub returns : goal.returns
 returns c =
-    omega (arith, c.loop-holding.invariant.1, at_drop_all (position c.args.place c.args.object) c.args.holdings.now c.loop-holding.holding-index c.loop-holding-test.false, position_none c.args.place c.args.object)
+    let p = c.args.place in
+    let o = c.args.object in
+    count_from_yields_List _ _ c.count.ensures.ran
+    (YieldsList-from_take_while _ (λ h. not (eqb h.object o))
+    (YieldsList-from_filter _ (held_by p) (YieldsList-from_slice c.args.holdings.now cc) (ap (λ s. s.p) c.take_while.ensures.source ∙ c.filter.ensures.closure) (λ x b q k. search (rules, tests)))
+    c.take_while.ensures.closure c.take_while.ensures.done (λ x b q k. search (rules, tests)))
+    ∙ position_counted p o c.args.holdings.now

@@ -1,8 +1,7 @@
 use Rattle.std.proofs.Common.{◌≡◌, get_or, take, ap, ◌∙◌}
-use Rattle.std.proofs.lemmas.List.{take_all}
-use Rattle.protocol.specs.Holdings.{waits, new_waits}
+use Rattle.protocol.specs.Holdings.{new_waits}
 use Rattle.protocol.specs.Places.{join, placed}
-use Rattle.holders.specs.Placed.{blank}
+use Rattle.protocol.specs.Empty.{no_holding}
 use Rattle.holders.specs.Sets.{mask_at}
 use Rattle.holders.proofs.OneMore.{waiting_none, waiting_more, waiting_skip}
 use Rattle.holders.proofs.waits.waiting.Goals as goal
@@ -17,18 +16,12 @@ loop-i-preserved c =
     let sets = c.loop-i.sets in
     let i = c.loop-i.i in
     let l = c.loop-i-test.true in
-    let h = get_or hs i blank in
+    let h = get_or hs i no_holding in
+    let at = c.from-place.ensures in
     elim c.if-place-lt16.branch [
       | then-place-lt16 w ↦
-          let is : w.with_waits.result.mask ≡ join (mask_at sets h.job) (placed (new_waits (take i hs) h)) = cc in
-          rw w.sets-is (waiting_more hs sets i l c.loop-i.invariant w.with_waits.result w.if-place-lt16.true is)
-      | else-place-lt16 w ↦ rw w.sets-is (waiting_skip hs sets i l c.loop-i.invariant w.if-place-lt16.false)
+          let is : w.joined.result.mask ≡ join (mask_at sets h.job) (placed (new_waits (take i hs) h)) =
+          rw (← at) (w.joined.ensures ∙ ap (join (mask_at sets c.from-place.result)) w.new_waits.ensures) in
+          rw (w.sets-is, at) (waiting_more hs sets i l c.loop-i.invariant w.joined.result (rw at at (w.if-place-lt16.true)) is)
+      | else-place-lt16 w ↦ rw w.sets-is (waiting_skip hs sets i l c.loop-i.invariant (rw at at (w.if-place-lt16.false)))
     ]
-
-pub returns : goal.returns
-returns c =
-    let hs = c.args.holdings.now in
-    record {
-      each = λ p l. c.loop-i.invariant.told p l ∙ ap (λ gs. placed (waits gs p)) (take_all c.loop-i.i hs c.loop-i-test.false);
-      all = c.loop-i.invariant.long;
-    }

@@ -1,38 +1,29 @@
-use Rattle.std.proofs.Common.{◌≡◌, ◌+◌, true, false, get_or, drop, ap, ◌∙◌}
-use Rattle.std.proofs.lemmas.List.{take_rest}
+use Rattle.std.proofs.Common.{true, false, ap, sym, ◌∙◌}
+use Rattle.std.proofs.lemmas.List.{nil_from_length}
 use Rattle.protocol.specs.Holdings.{waits}
-use Rattle.protocol.specs.Places.{single, join, placed}
-use Rattle.holders.specs.Placed.{blank}
-use Rattle.holders.specs.Sets.{blocks}
-use Rattle.holders.proofs.Gathered.{gathered_none, gathered_more, gathered_skip, gathered_all}
-use Rattle.holders.proofs.Sets.{waits_none, waits_more}
+use Rattle.protocol.specs.Places.{join, placed}
+use Rattle.holders.proofs.Joins.{none_join, join_none, placed_zero}
+use Rattle.holders.proofs.Sets.{waits_none, waits_added}
 use Rattle.holders.proofs.waits.waits_of.Goals as goal
-use Rattle.holders.proofs.waits.waits_of.Goals.{then-is_in_the_way, else-is_in_the_way}
 
-pub loop-i-init : goal.loop-i-init
-loop-i-init c =
-    let p = c.args.place in
-    gathered_none (λ hs. waits hs p) (blocks p) (λ h. single h.job) (waits_none p) (waits_more p) c.args.holdings.now
+pub loop-holding-init : goal.loop-holding-init
+loop-holding-init c = none_join (placed (waits c.args.holdings.now c.args.place))
 
-pub loop-i-preserved : goal.loop-i-preserved
-loop-i-preserved c =
-    let p = c.args.place in
-    let hs = c.args.holdings.now in
-    let i = c.loop-i.i in
-    let h = get_or hs i blank in
-    let l = c.loop-i-test.true in
-    let is : c.is_in_the_way.result ≡ blocks p h (drop (i + 1) hs) = c.is_in_the_way.ensures ∙ ap (blocks p h) (take_rest hs (i + 1)) in
-    elim c.if-is_in_the_way.branch [
-      | then-is_in_the_way w ↦
-          let e : blocks p h (drop (i + 1) hs) ≡ true = cc in
-          let j : w.joined-set.result.mask ≡ join c.loop-i.set.mask (placed (single h.job)) = cc in
-          rw w.set-is (gathered_more (λ hs. waits hs p) (blocks p) (λ h. single h.job) (waits_none p) (waits_more p) hs blank c.loop-i.set.mask i c.loop-i.invariant l w.joined-set.result.mask e j)
-      | else-is_in_the_way w ↦
-          let e : blocks p h (drop (i + 1) hs) ≡ false = cc in
-          rw w.set-is (gathered_skip (λ hs. waits hs p) (blocks p) (λ h. single h.job) (waits_none p) (waits_more p) hs blank c.loop-i.set.mask i c.loop-i.invariant l e)
-    ]
+pub loop-holding-preserved-then-is_in_the_way : goal.loop-holding-preserved-then-is_in_the_way
+loop-holding-preserved-then-is_in_the_way c =
+    let set = c.loop-holding.set.mask in
+    let added = waits_added c.args.place set c.in-Some.holding.now c.in-Some.behind.now c.loop-holding.rest.now true c.in-Some.ensures.cases.0 (sym c.is_in_the_way.ensures ∙ c.if-is_in_the_way.true) in
+    ap (λ m. join m (placed (waits c.in-Some.behind.now c.args.place))) (c.joined-set.ensures ∙ ap (join set) c.only.ensures) ∙ added ∙ c.loop-holding.invariant
+
+pub loop-holding-preserved : goal.loop-holding-preserved
+loop-holding-preserved c =
+    let set = c.loop-holding.set.mask in
+    let added = waits_added c.args.place set c.in-Some.holding.now c.in-Some.behind.now c.loop-holding.rest.now false c.in-Some.ensures.cases.0 (sym c.is_in_the_way.ensures ∙ c.if-is_in_the_way.false) in
+    ap (λ m. join m (placed (waits c.in-Some.behind.now c.args.place))) (sym (join_none set)) ∙ added ∙ c.loop-holding.invariant
 
 pub returns : goal.returns
 returns c =
     let p = c.args.place in
-    gathered_all (λ hs. waits hs p) (blocks p) (λ h. single h.job) (waits_none p) (waits_more p) c.args.holdings.now c.loop-i.set.mask c.loop-i.i c.loop-i.invariant c.loop-i-test.false
+    let set = c.loop-holding.set.mask in
+    let nil = nil_from_length c.loop-holding.rest.now c.in_default.ensures.cases in
+    sym (ap (λ hs. join set (placed (waits hs p))) nil ∙ ap (λ n. join set (placed n)) (waits_none p) ∙ ap (join set) placed_zero ∙ join_none set) ∙ c.loop-holding.invariant

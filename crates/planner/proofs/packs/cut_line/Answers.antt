@@ -1,15 +1,18 @@
-use Rattle.std.proofs.Common.{sym, arith, rules}
-use Rattle.std.proofs.lemmas.List.{take_rest}
-use Rattle.planner.proofs.Cuts.{take_before, after_within, after_none}
+use Rattle.std.proofs.Common.{◌≡◌, eqb, sym, ◌∙◌, rules}
+use Rattle.std.specs.List.{position}
+use Rattle.std.proofs.lemmas.Iterator.{YieldsList-from_slice}
+use Rattle.std.proofs.lemmas.Iterator.Search.{position_from_yields_List}
+use Rattle.planner.proofs.Cuts.{cut_there, cut_nowhere}
 use Rattle.planner.proofs.packs.cut_line.Goals as goal
 
-pub returns-then-end-text : goal.returns-then-end-text
-returns-then-end-text c =
-    let front = take_before c.args.text.now in
-    let back = after_within c.args.text.now (omega arith) in
-    record { line = grind arith; rest = search (rules, take_rest, back) }
+pub returns-in-Some : goal.returns-in-Some
+returns-in-Some c =
+    let found : c.position.result ≡ position (λ byte. eqb byte 10) c.args.text.now = position_from_yields_List (λ byte. eqb byte 10) _ _ _ c.position.ensures.ran (YieldsList-from_slice c.args.text.now cc) (λ x b q k. search rules) in
+    let cut = cut_there c.args.text.now c.in-Some.end (sym c.in-Some.is ∙ found) in
+    record { line = cut.0; rest = cut.1 }
 
-pub returns-else-end-text : goal.returns-else-end-text
-returns-else-end-text c =
-    let all = after_none c.args.text.now (omega arith) in
-    record { line = sym all.0; rest = sym all.1 }
+pub returns-in-None : goal.returns-in-None
+returns-in-None c =
+    let found : c.position.result ≡ position (λ byte. eqb byte 10) c.args.text.now = position_from_yields_List (λ byte. eqb byte 10) _ _ _ c.position.ensures.ran (YieldsList-from_slice c.args.text.now cc) (λ x b q k. search rules) in
+    let cut = cut_nowhere c.args.text.now (sym c.in-None.is ∙ found) in
+    record { line = cut.0; rest = cut.1 }

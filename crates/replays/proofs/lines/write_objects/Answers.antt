@@ -3,7 +3,7 @@ use Rattle.script.specs.Outputs.{object_bytes}
 use Rattle.replays.specs.Output.{lines_from}
 use Rattle.replays.proofs.Writing.{line_more, lines_done, value_there, not_there, object_line_is}
 use Rattle.replays.proofs.lines.write_objects.Goals as goal
-use Rattle.replays.proofs.lines.write_objects.Goals.{in-Some+in_ok-line+in_ok-push_str, in_default}
+use Rattle.replays.proofs.lines.write_objects.Goals.{in-Some+in_ok-write_line, in_default}
 
 pub loop-object-preserved : goal.loop-object-preserved
 loop-object-preserved g c =
@@ -14,12 +14,12 @@ loop-object-preserved g c =
     let there : o < length xs = omega (arith, c.loop-object-test.true, c.len-object-end.ensures.counts) in
     let small : length xs ≤ 65536 = g.S.Store.short c.args.store.now in
     elim c.match-read.branch [
-      | in-Some+in_ok-line+in_ok-push_str w ↦
+      | in-Some+in_ok-write_line w ↦
           rw w.out-is (
-          line_more object_bytes o xs o now whole c.loop-object.invariant 0 (string_bytes w.push_str.new.self) there
-          (w.in_ok-push_str.ensures.bytes
+          line_more object_bytes o xs o now whole c.loop-object.invariant 0 (string_bytes w.write_line.new.out) there
+          (w.in_ok-write_line.ensures
           ∙ ap (λ l. now ++ l)
-          (w.as_str.ensures.value ∙ w.in_ok-line.ensures.bytes ∙ object_line_is _ o w.in-Some.value (get_or xs o 0) (omega (arith, small)) (value_there xs o w.in-Some.value c.read.result there c.read.ensures.reads w.in-Some.is)))
+          (object_line_is _ o w.in-Some.value (get_or xs o 0) (omega (arith, small)) (value_there xs o w.in-Some.value c.read.result there c.read.ensures.reads w.in-Some.is)))
           )
       | in_default w ↦ absurd (not_there xs o c.read.result there c.read.ensures.reads w.in_default.is)
     ]

@@ -1,19 +1,18 @@
-use Rattle.std.proofs.Common.{vec_items, refl, arith, ltb-false, ltb-true}
-use Rattle.script.proofs.Wholes.{no_lines, refused, accepted}
+use Rattle.std.proofs.Common.{vec_items, refl, arith, ltb-false}
+use Rattle.std.proofs.lemmas.Result.{err_from_is_err_and}
+use Rattle.script.proofs.Wholes.{refused, accepted}
 use Rattle.script.proofs.scripts.read_script.Goals as goal
 
-pub returns-in_default : goal.returns-in_default
-returns-in_default c =
-    no_lines c.args.script.now c.if-script-gt-LONGEST.false c.as_slice.result.now (vec_items c.in_ok-lines.lines) c.as_slice.ensures.value c.in_ok-lines.ensures (omega (arith, ltb-true))
-
-pub returns-in-Ok : goal.returns-in-Ok
-returns-in-Ok c =
-    accepted c.args.script.now c.if-script-gt-LONGEST.false c.as_slice.result.now (vec_items c.in_ok-lines.lines) c.as_slice.ensures.value c.in_ok-lines.ensures
+pub returns-in_err-setup : goal.returns-in_err-setup
+returns-in_err-setup c =
+    let p = err_from_is_err_and c.from_residual-in_err-setup.result c.from_residual-in_err-setup.ensures.1 in
+    rw p.1 (rw p.2
+    (refused c.args.script.now (omega arith) c.as_slice.result.now (vec_items c.in_ok-lines.lines) c.as_slice.ensures.value c.in_ok-lines.ensures
     (omega (arith, ltb-false)) c.first-item.result c.first-item.is c.as_slice-2.result.now c.as_slice-2.ensures.value
-    c.in-Ok.setup (vec_items c.in_ok-read_calls-in-Ok.field-0) _ refl c.in-Ok.ensures c.in_ok-read_calls-in-Ok.ensures
+    c.in_err-setup.field-0.0 c.in_err-setup.ensures))
 
 pub returns : goal.returns
 returns c =
-    refused c.args.script.now c.if-script-gt-LONGEST.false c.as_slice.result.now (vec_items c.in_ok-lines.lines) c.as_slice.ensures.value c.in_ok-lines.ensures
+    accepted c.args.script.now (omega arith) c.as_slice.result.now (vec_items c.in_ok-lines.lines) c.as_slice.ensures.value c.in_ok-lines.ensures
     (omega (arith, ltb-false)) c.first-item.result c.first-item.is c.as_slice-2.result.now c.as_slice-2.ensures.value
-    c.in-Err.fault c.in-Err.ensures
+    c.in_ok-setup.setup (vec_items c.in_ok-readings.readings) _ refl c.in_ok-setup.ensures c.in_ok-readings.ensures

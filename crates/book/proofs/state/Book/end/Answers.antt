@@ -12,7 +12,7 @@ use Rattle.book.proofs.state.Book.end.Goals as goal
 pub invariant_of-self : goal.invariant_of-self
 invariant_of-self c =
     let b = c.args.self.now in
-    let p = c.args.place in
+    let p = c.args.place.number in
     record {
       limited = b.limited;
       places = length-set b.jobs p None ∙ b.places;
@@ -23,5 +23,5 @@ invariant_of-self c =
 
 pub returns : goal.returns
 returns c = λ values written.
-    ended_is c.args.ending c.args.place written (view values c.args.self.now) (items c.remove_job.new.self) (items c.settle.new.self) (items c.settle-2.new.self)
+    ended_is c.args.ending c.args.place.number written (view values c.args.self.now) (items c.remove_job.new.self) (items c.settle.new.self) (items c.settle-2.new.self)
     c.remove_job.ensures.becomes c.settle.ensures.becomes c.settle-2.ensures.becomes

@@ -1,6 +1,6 @@
 use Rattle.std.proofs.Common.{◌≡◌, true, ◌&&◌, eqb, [], sym, ap, ◌∙◌, rules}
+use Rattle.std.specs.Prelude.{is_some}
 use Rattle.protocol.specs.Holdings.{waits}
-use Rattle.protocol.specs.Lists.{is_some}
 use Rattle.protocol.specs.Model.{job_at}
 use Rattle.protocol.specs.Places.{placed}
 use Rattle.holders.proofs.Cut.{waits_placed}
@@ -9,8 +9,8 @@ use Rattle.book.specs.View.{view}
 use Rattle.book.proofs.Places.{within_placed}
 use Rattle.book.proofs.state.Book.is_free.Goals as goal
 
-pub returns-in-Some : goal.returns-in-Some
-returns-in-Some c =
+pub returns-then-is_some : goal.returns-then-is_some
+returns-then-is_some c =
     let b = c.args.self.now in
     let p = c.args.place in
     let hs = items b.holdings in

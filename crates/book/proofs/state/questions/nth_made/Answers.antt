@@ -1,46 +1,15 @@
-use Rattle.std.proofs.Common.{◌+◌, map, get_or, drop, sym, refl, ap, ◌∙◌}
-use Rattle.std.proofs.lemmas.Bool.{eq-eqb, ne_eqb}
-use Rattle.protocol.specs.Lists.{keep}
-use Rattle.protocol.specs.Pairing.{of_object}
-use Rattle.book.specs.Blanks.{no_version}
-use Rattle.std.specs.List.{slice_get}
+use Rattle.std.proofs.Common.{sym, ap, ◌∙◌, rules}
+use Rattle.std.proofs.lemmas.Iterator.{YieldsList-from_slice, YieldsList-from_map}
+use Rattle.std.proofs.lemmas.Iterator.Adapters.{option_map_id}
+use Rattle.std.proofs.lemmas.Iterator.Consumers.{YieldsList-from_filter, nth_from_yields_List}
+use Rattle.std.specs.Iterator.Adapters.{filter_source, filter_callee}
+use Rattle.std.specs.Slice.Iter.{iter_rest}
+use borrow.Author.Tests.{tests}
 use Rattle.book.specs.Questions.{made_version}
-use Rattle.book.proofs.Searched.{keep_here, keep_later, keep_end, nth_more, same_read}
 use Rattle.book.proofs.state.questions.nth_made.Goals as goal
-use Rattle.book.proofs.state.questions.nth_made.Goals.{then-version-object+else-left-eq0, else-version-object}
-
-pub loop-version-init : goal.loop-version-init
-loop-version-init c = refl
-
-pub returns-then-left-eq0 : goal.returns-then-left-eq0
-returns-then-left-eq0 c =
-    let t = of_object c.args.object in
-    let vs = c.args.versions.now in
-    let i = c.loop-version.version-index in
-    let v = get_or vs i no_version in
-    let l = c.loop-version-test.true in
-    sym (ap (λ xs. slice_get (map made_version xs) 0) (keep_here t vs i v l (same_read vs i no_version l) (eq-eqb _ _ c.if-version-object.true)))
-    ∙ ap (slice_get (map made_version (keep t (drop i vs)))) (sym c.if-left-eq0.true) ∙ c.loop-version.invariant
-
-pub loop-version-preserved : goal.loop-version-preserved
-loop-version-preserved c =
-    let t = of_object c.args.object in
-    let vs = c.args.versions.now in
-    let i = c.loop-version.version-index in
-    let v = get_or vs i no_version in
-    let l = c.loop-version-test.true in
-    let left = c.loop-version.left in
-    elim c.if-version-object.branch [
-      | then-version-object+else-left-eq0 w ↦
-          rw w.left-is (
-          sym (ap (λ xs. slice_get (map made_version xs) left) (keep_here t vs i v l (same_read vs i no_version l) (eq-eqb _ _ w.if-version-object.true))
-          ∙ nth_more (made_version v) (map made_version (keep t (drop (i + 1) vs))) left w.if-left-eq0.false) ∙ c.loop-version.invariant
-          )
-      | else-version-object w ↦
-          rw w.left-is (sym (ap (λ xs. slice_get (map made_version xs) left) (keep_later t vs i v l (same_read vs i no_version l) (ne_eqb _ _ w.if-version-object.false))) ∙ c.loop-version.invariant)
-    ]
 
 pub returns : goal.returns
 returns c =
-    sym (ap (λ xs. slice_get (map made_version xs) c.loop-version.left) (keep_end (of_object c.args.object) c.args.versions.now c.loop-version.version-index c.loop-version-test.false))
-    ∙ c.loop-version.invariant
+    sym (option_map_id c.nth.result)
+    ∙ nth_from_yields_List c.nth.result _ c.args.n c.nth.ensures.ran
+    (YieldsList-from_map _ made_version (YieldsList-from_filter _ _ (YieldsList-from_slice c.args.versions.now (ap (λ s. iter_rest (filter_source s)) c.map.ensures.source ∙ cc)) (ap filter_callee c.map.ensures.source ∙ c.filter.ensures.closure) (λ x b q k. search (rules, tests))) c.map.ensures.closure (λ x r q k. search rules))

@@ -1,6 +1,0 @@
-use Rattle.std.proofs.Common.{◌≡◌, ◌+◌, length, drop}
-use Rattle.fields.specs.Cut.{before}
-use Rattle.fields.proofs.cuts.find.Given as goal
-
-abbrev pub invariant-loop-i : goal.invariant-loop-i
-invariant-loop-i l = l.i + length (before l.mark (drop l.i l.text)) ≡ length (before l.mark l.text)

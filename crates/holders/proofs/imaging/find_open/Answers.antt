@@ -1,0 +1,32 @@
+use Rattle.std.proofs.Common.{◌≡◌, ◌&&◌, ℕ, Bool, true, false, Ok, Err, if◌then◌else◌, cond, rules, refl, ap, ◌∙◌}
+use Rattle.std.specs.Bool.{then_some}
+use Rattle.std.specs.Option.{ok_or}
+use Rattle.std.specs.Result.{is_ok}
+use Rattle.std.proofs.lemmas.Iterator.{YieldsList-from_slice}
+use Rattle.std.proofs.lemmas.Iterator.Search.{any_from_yields_List}
+use borrow.Author.Tests.{tests}
+use Rattle.terms.specs.declared.calls.Call.TheVariants.{Image}
+use Rattle.protocol.specs.declared.holdings.Holding.{Holding}
+use Rattle.protocol.specs.declared.refusals.Refusal.TheVariants.{NotOpen}
+use Rattle.protocol.specs.Holdings.{opened, holds, turn}
+use Rattle.holders.specs.Imaging.{image_of}
+use Rattle.holders.proofs.imaging.find_open.Goals as goal
+
+-- the image call turns the open holding and no other
+turns : (p o : ℕ) (h : Holding) → is_ok (image_of h (Image p o)) ≡ (holds p o h && opened h.state)
+turns p o h = go (holds p o h && opened h.state)
+  where
+    go : (b : Bool) → is_ok (cond b (Ok (turn p o h)) (Err NotOpen)) ≡ b
+    go true = refl
+    go false = refl
+
+answered : (b : Bool) → ok_or (then_some b (tt {0})) NotOpen ≡ (if b then Ok (tt {0}) else Err NotOpen)
+answered true = refl
+answered false = refl
+
+pub returns : goal.returns
+returns c =
+    let p = c.args.place in
+    let o = c.args.object in
+    let any = any_from_yields_List (λ h. holds p o h && opened h.state) _ _ _ c.any-is_open.ensures.ran (YieldsList-from_slice c.args.holdings.now cc) (λ x b q k. let t = turns p o x.now in search (rules, tests)) in
+    rw (← any) (c.ok_or.ensures.value ∙ ap (λ s. ok_or s NotOpen) c.then_some.ensures ∙ answered c.any-is_open.result)

@@ -1,0 +1,60 @@
+// What a script that was read asks for: its calls, and the answer to each of its lines.
+ghost use Rattle.std.specs.Prelude.{◌≡◌, ◌≤◌, ◌++◌, length, string_bytes, IfOk, OnOk};
+ghost use Rattle.protocol.specs.Cases.{answer_number};
+ghost use Rattle.script.specs.Outputs.{answer_bytes};
+ghost use Rattle.replays.specs.Output.{calls_in, lines_from};
+ghost use Rattle.replays.specs.Merged.{merged};
+
+use super::lines::write_line;
+use protocol::Refusal;
+use script::{Fault, OutputLine, Setup};
+use std::alloc::{AllocError, Global};
+use terms::Call;
+
+// The setup of a script, and what each line after the first was read as.
+#[derive(Clone, Copy)]
+pub(crate) struct Asked<'a> {
+    pub setup: Setup,
+    pub readings: &'a [Result<Call, Fault>],
+    // each of its lines has a byte at least, and a script has at most 32,768
+    ghost short: { length readings.now ≤ 32768 },
+}
+
+// The number that answers a call.
+fn answer_number(answer: Option<Refusal>) -> u8
+    ensures { result ≡ answer_number answer }
+{
+    answer.map_or(0, u8::from)
+}
+
+impl Asked<'_> {
+    // The calls, in order.
+    pub(crate) fn calls(&self, heap: Global) -> Result<Vec<Call>, AllocError>
+        ensures { IfOk result (λ v. v.items ≡ calls_in self.now.readings.now) }
+    {
+        self.readings
+            .iter()
+            .filter_map(|reading| reading.ok())
+            .collect(heap)
+    }
+
+    // The line of the answer to each line from the second on, by the answers to the calls.
+    pub(crate) fn write_answers(
+        &self,
+        out: &mut String,
+        answers: &[Option<Refusal>],
+    ) -> Result<(), AllocError>
+        ensures { OnOk result (string_bytes out.new ≡ string_bytes out.old ++ lines_from answer_bytes 2 (merged self.now.readings.now answers.now)) }
+    {
+        let mut next = answers.iter();
+        for (i, reading) in self.readings.iter().enumerate() {
+            let answer = match reading {
+                Ok(_) => answer_number(next.next().copied().flatten()),
+                Err(fault) => u8::from(*fault),
+            };
+            let number = i as u32 + 2;
+            write_line(out, OutputLine::Answer { number, answer })?;
+        }
+        Ok(())
+    }
+}
