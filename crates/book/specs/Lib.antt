@@ -1,4 +1,5 @@
 pub mod Meeting
+pub mod Tests
 pub mod Questions
 pub mod View
 pub mod Told

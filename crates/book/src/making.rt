@@ -9,7 +9,7 @@ use protocol::{Assumption, Execution, Job, PlaceSet, Version};
 use tables::Table;
 use terms::JobRule;
 
-// An image that is asked for, with what is the same for all executions of its job.
+// An image that is asked for, with what is the same for all executions of its job. It shares four fields with a lock's request, and no method.
 #[derive(Drop)]
 pub(crate) struct Making<'a, R> {
     pub rule: &'a R,
@@ -52,7 +52,7 @@ impl<R: JobRule> Making<'_, R> {
         ensures { items result ≡ map (version_by (R.JobRule.means self.now.rule.now) (Some self.now.job) self.now.object self.now.met) (filter (names self.now.place.number) executions.now) }
     {
         let mut all = Table::new(Version::EMPTY);
-        // a loop over a filter gets no proof in a generic function
+        // a loop over a filter was tried: in a generic function it gets no proof
         for execution in executions {
             if execution.job == self.place.number {
                 all.push(self.version(execution)).unwrap();

@@ -15,7 +15,7 @@ pub struct Run {
     pub ready: Option<u8>,
 }
 
-// Why there was no run.
+// Why there was no run. An error of this crate's own, since callers match on its refusals.
 #[derive(Clone, Copy, PartialEq, Eq, Debug)]
 pub enum RunError {
     Refused(Refusal),

@@ -74,7 +74,7 @@ impl<R: JobRule> Request<'_, R> {
         ensures added { Added found.old.limit (items found.old.pairs) (pairs self.now.robustness (meeting (R.JobRule.means self.now.rule.now) self.now) offers.now (filter (names self.now.place.number) executions.now)) (items found.new.pairs) result }
         ensures within { found.new.limit ≡ found.old.limit }
     {
-        // a loop over a filter gets no proof in a generic function
+        // a loop over a filter was tried: in a generic function it gets no proof
         for execution in executions {
             if execution.job == self.place.number {
                 self.add_pairs(found, execution, offers)?;

@@ -7,8 +7,8 @@ use super::state::Book;
 use std::alloc::Global;
 use terms::{Call, JobRule, Store};
 
-// Six parameters, not a struct: users read the call and its two clauses as they stand.
 // Makes a book and carries out the calls in order. Memory for the answers is taken before the first, so without it nothing has changed.
+// Six parameters, not a struct: users read the call and its two clauses as they stand.
 pub fn run<S: Store, R: JobRule>(
     heap: Global,
     robustness: u64,

@@ -1,4 +1,4 @@
-// The jobs of those holdings that a closure passes.
+// The jobs of the holdings that pass a test.
 ghost use Rattle.std.specs.Prelude.{◌≡◌, Bool};
 ghost use Rattle.protocol.specs.declared.holdings.Holding.{Holding};
 ghost use Rattle.protocol.specs.Holdings.{jobs_of};
@@ -6,7 +6,7 @@ ghost use Rattle.protocol.specs.Places.{placed};
 
 use protocol::{Holding, PlaceSet};
 
-// They are those of the holdings that pass the test, for any test that says what the closure answers.
+// The test is a closure; the contract names it by any function that says what the closure answers.
 pub(crate) fn jobs_passing<F: Fn(&Holding) -> bool>(holdings: &[Holding], passes: F) -> PlaceSet
     requires { F.IsAlwaysCallable passes }
     ensures { (test : Holding → Bool) → ((h : _) (b : Bool) → F.post passes h b → b ≡ test h.now) → result.mask ≡ placed (jobs_of test holdings.now) }

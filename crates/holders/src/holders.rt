@@ -36,7 +36,7 @@ pub fn has_open(holdings: &[Holding], place: u8) -> bool
     holdings.iter().any(|holding| holding.job == place && holding.state == HoldingState::Open)
 }
 
-// How many objects a job holds.
+// How many objects a job holds. The book counts records of every kind; this crate knows holdings alone.
 pub fn count_held(holdings: &[Holding], place: u8) -> usize
     ensures { result ≡ length (filter (held_by place) holdings.now) }
 {
@@ -47,6 +47,7 @@ pub fn count_held(holdings: &[Holding], place: u8) -> usize
 }
 
 // Where the object stands among those that a job holds; how many these are, where it is none of them.
+// A number and no option, as the rules have it: they ask only where the job holds the object.
 pub fn position(holdings: &[Holding], place: u8, object: u64) -> usize
     ensures { result ≡ position_of place object holdings.now }
 {

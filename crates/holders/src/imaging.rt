@@ -9,6 +9,7 @@ use protocol::{Holding, HoldingState, Refusal};
 use terms::Call;
 
 // What an image call makes of a holding: an open one of its job and object is turned, any other refuses.
+// Readers look for this match on the state and the call together; a table turns by the same rule, and refuses nothing.
 pub fn imaged(holding: Holding, call: Call) -> Result<Holding, Refusal>
     ensures { result ≡ image_of holding call }
 {

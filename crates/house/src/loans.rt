@@ -45,6 +45,7 @@ pub struct Loan {
     pub due_day: u32,
 }
 
+// The low 32 bits of a value are the day, and the high ones the team.
 const DAYS: u64 = 4294967296;
 
 // The loan that a value says.

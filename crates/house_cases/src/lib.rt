@@ -47,27 +47,20 @@ mod tests {
 
     #[test]
     fn faults_name_their_line(rt: HostRuntime) {
-        let texts: [(&[u8], usize); 9] = [
-            (b"", 0),
-            (b"0", 0),
-            (b"200\n80\n", 0),
-            (b"18446744073709551615\n0000000000000000000000007", 0),
-            (b"\n", 1),
-            (b"1\n\n2", 2),
-            (b"1\n2\n-3\n4\n", 3),
-            (b"1\n18446744073709551616\n", 2),
-            (b"7\r\n", 1),
+        let texts: [(&[u8], Option<usize>); 9] = [
+            (b"", None),
+            (b"0", None),
+            (b"200\n80\n", None),
+            (b"18446744073709551615\n0000000000000000000000007", None),
+            (b"\n", Some(1)),
+            (b"1\n\n2", Some(2)),
+            (b"1\n2\n-3\n4\n", Some(3)),
+            (b"1\n18446744073709551616\n", Some(2)),
+            (b"7\r\n", Some(1)),
         ];
         for (text, line) in texts {
             let fault = read_packs(rt.alloc(), text).err();
-            assert_eq!(rt;
-                fault,
-                if line == 0 {
-                    None
-                } else {
-                    Some(Fault::NoNumber { line })
-                }
-            );
+            assert_eq!(rt; fault, line.map(|line| Fault::NoNumber { line }));
         }
     }
 }

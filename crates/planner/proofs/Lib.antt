@@ -1,6 +1,5 @@
 pub mod Left
 pub mod Sheets
-pub mod Tries
 pub mod Digits
 pub mod Cuts
 pub mod Laid

@@ -1,25 +1,19 @@
 -- Packs that are written as text are read back.
-use Rattle.std.proofs.Common.{◌≡◌, ℕ, ◌+◌, ◌^◌, ◌<◌, ◌≤◌, true, ◌&&◌, eqb, leb, List, [], ◌∷◌, ◌++◌, length, Some, Ok, decimal, sym, refl, ap, ◌∙◌, append_assoc, append-nil, arith, length-append, rules}
+use Rattle.std.proofs.Common.{◌≡◌, ℕ, ◌+◌, ◌^◌, ◌<◌, ◌≤◌, true, ◌&&◌, eqb, leb, List, [], ◌∷◌, ◌++◌, length, Some, Ok, decimal, sym, refl, ap, ◌∙◌, append_assoc, append-nil, arith, length-append}
 use Rattle.std.proofs.lemmas.Fmt.{digits_decimal, digits_value-decimal, decimal_nonempty}
-use Rattle.std.proofs.lemmas.Str.Parse.{IsNumeralModel, numerals_by_fold}
 use Rattle.std.proofs.lemmas.Bool.{and_parts, leb-true, ne_eqb, cond-false}
-use Rattle.std.proofs.lemmas.Bool.Decides.{nat_tests}
 use Rattle.std.specs.List.{AllByRecursion}
-use Rattle.planner.specs.Numbers.{digits, value_after, number_of}
+use Rattle.planner.specs.Numbers.{digits, number_of}
 use Rattle.planner.specs.Packs.{before_feed, after_feed, lines_of, packs_after}
 use Rattle.planner.specs.PackLaws.{written, ReadsBack}
+use Rattle.planner.proofs.Digits.{own, number_told}
 use Rattle.planner.proofs.Cuts.{before_cons, after_cons}
 use Rattle.planner.proofs.Turns.{pack_read, text_ends}
 
-own : IsNumeralModel (λ ds. digits ds ≡ true) (value_after 0)
-own = numerals_by_fold _ (search rules) value_after (search rules)
-
 number_decimal : (n : ℕ) → n < 2 ^ 64 → Some n ≡ number_of (decimal n)
 number_decimal n h =
-    let some = decimal_nonempty n h in
-    let all = digits_decimal own n h in
     let value = digits_value-decimal own n h in
-    grind (arith, nat_tests)
+    ap Some (sym value) ∙ number_told (decimal n) (digits_decimal own n h, decimal_nonempty n h, omega arith)
 
 -- digits are no line feeds
 cut_digits : (ds rest : List ℕ) → digits ds ≡ true → (before_feed (ds ++ (10 ∷ rest)) ≡ ds) × (after_feed (ds ++ (10 ∷ rest)) ≡ rest)

@@ -13,7 +13,3 @@ value_after n line = fold (λ n byte. n * 10 + (byte - 48)) n line
 -- a line is a number where it is digits, at least one, whose value fits 64 bits
 abbrev pub number_of : List ℕ → Option ℕ
 number_of line = cond (nat_lt 0 (length line) && (digits line && nat_lt (value_after 0 line) (2 ^ 64))) (Some (value_after 0 line)) None
-
--- the value of digits and one more byte, where that is a digit and the value fits 64 bits
-abbrev pub with_digit : ℕ → ℕ → Option ℕ
-with_digit value byte = cond ((nat_le 48 byte && nat_le byte 57) && nat_lt (value * 10 + (byte - 48)) (2 ^ 64)) (Some (value * 10 + (byte - 48))) None

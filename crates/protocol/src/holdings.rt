@@ -1,4 +1,9 @@
 // What a job holds.
+ghost use Rattle.std.specs.Prelude.{◌≡◌};
+ghost use Rattle.protocol.specs.Holdings.{begins};
+
+use terms::Mode;
+
 #[derive(Clone, Copy, PartialEq, Eq, Debug)]
 pub enum HoldingState {
     // locked to read
@@ -7,6 +12,18 @@ pub enum HoldingState {
     Open,
     // locked to write and imaged: the job is a maker of the object
     Turned,
+}
+
+// How a holding begins.
+impl From<Mode> for HoldingState {
+    ghost from_gives = { λ mode state. state ≡ begins mode };
+
+    fn from(mode: Mode) -> HoldingState {
+        match mode {
+            Mode::Read => HoldingState::Reading,
+            Mode::Write => HoldingState::Open,
+        }
+    }
 }
 
 #[derive(Clone, Copy, PartialEq, Eq, Debug)]

@@ -1,4 +1,5 @@
 // The program `replay` once more: a program is run on one stored script, and this is the long one.
+// Its three lines work on handles, of which no contract speaks, so they stand in each `main`.
 #![tactic(auto)]
 
 use replays::replayed;

@@ -1,5 +1,5 @@
 -- What a replay prints for the bytes of a script.
-use Rattle.std.specs.Prelude.{ℕ, ◌+◌, List, [], ◌∷◌, ◌++◌, length, replicate, Some, None, Ok, Err, Option, Result, filter, filter_map}
+use Rattle.std.specs.Prelude.{ℕ, ◌+◌, List, [], ◌∷◌, ◌++◌, length, replicate, Some, None, Ok, Err, Option, Result, filter, filter_map, ◌≡◌, String, string_bytes}
 use Rattle.std.specs.Result.{result_ok}
 use Rattle.terms.specs.declared.calls.Call.{Call}
 use Rattle.terms.specs.Rule.{Rule}
@@ -34,6 +34,10 @@ unfolding answer step
 line_answers r m [] = []
 line_answers r m (Ok c ∷ rs) = answer_number (answer r m c) ∷ line_answers r (step r m c) rs
 line_answers r m (Err f ∷ rs) = number_of f ∷ line_answers r m rs
+
+-- the text has these bytes behind those that it had
+abbrev pub Appended : {Z : Type 0} → String Z → String Z → List ℕ → Type 0
+Appended before after bytes = string_bytes after ≡ string_bytes before ++ bytes
 
 -- a line of output for each of the items, numbered from n on
 unfoldable pub lines_from : {A : Type 0} → (ℕ → A → List ℕ) → ℕ → List A → List ℕ

@@ -2,7 +2,7 @@
 ghost use Rattle.std.specs.Prelude.{◌≡◌, ◌≤◌, ◌++◌, length, string_bytes, IfOk, OnOk};
 ghost use Rattle.protocol.specs.Cases.{answer_number};
 ghost use Rattle.script.specs.Outputs.{answer_bytes};
-ghost use Rattle.replays.specs.Output.{calls_in, lines_from};
+ghost use Rattle.replays.specs.Output.{Appended, calls_in, lines_from};
 ghost use Rattle.replays.specs.Merged.{merged};
 
 use super::lines::write_line;
@@ -11,7 +11,7 @@ use script::{Fault, OutputLine, Setup};
 use std::alloc::{AllocError, Global};
 use terms::Call;
 
-// The setup of a script, and what each line after the first was read as.
+// The setup of a script, and what each line after the first was read as: a script that was read, lent, with the bound on its lines.
 #[derive(Clone, Copy)]
 pub(crate) struct Asked<'a> {
     pub setup: Setup,
@@ -44,12 +44,12 @@ impl Asked<'_> {
         out: &mut String,
         answers: &[Option<Refusal>],
     ) -> Result<(), AllocError>
-        ensures { OnOk result (string_bytes out.new ≡ string_bytes out.old ++ lines_from answer_bytes 2 (merged self.now.readings.now answers.now)) }
+        ensures { OnOk result (Appended out.old out.new (lines_from answer_bytes 2 (merged self.now.readings.now answers.now))) }
     {
-        let mut next = answers.iter();
+        let mut left = answers.iter();
         for (i, reading) in self.readings.iter().enumerate() {
             let answer = match reading {
-                Ok(_) => answer_number(next.next().copied().flatten()),
+                Ok(_) => answer_number(left.next().copied().flatten()),
                 Err(fault) => u8::from(*fault),
             };
             let number = i as u32 + 2;

@@ -2,7 +2,7 @@
 ghost use Rattle.std.specs.Prelude.{◌≡◌, [], ◌++◌, string_bytes, OnOk};
 ghost use Rattle.book.specs.View.{view};
 ghost use Rattle.script.specs.Outputs.{line_bytes, object_bytes};
-ghost use Rattle.replays.specs.Output.{lines_from, place_bytes};
+ghost use Rattle.replays.specs.Output.{Appended, lines_from, place_bytes};
 
 use book::Book;
 use script::OutputLine;
@@ -12,14 +12,14 @@ use terms::Store;
 
 // One line more.
 pub(crate) fn write_line(out: &mut String, line: OutputLine) -> Result<(), AllocError>
-    ensures { OnOk result (string_bytes out.new ≡ string_bytes out.old ++ line_bytes line) }
+    ensures { OnOk result (Appended out.old out.new (line_bytes line)) }
 {
     write!(out, "{line}")
 }
 
 // The value of each object.
 pub(crate) fn write_objects<S: Store>(out: &mut String, store: &S) -> Result<(), AllocError>
-    ensures { OnOk result (string_bytes out.new ≡ string_bytes out.old ++ lines_from object_bytes 0 (S.Store.values store.now)) }
+    ensures { OnOk result (Appended out.old out.new (lines_from object_bytes 0 (S.Store.values store.now))) }
 {
     for object in 0..store.len() {
         if let Some(value) = store.read(object) {
@@ -37,7 +37,7 @@ pub(crate) fn write_objects<S: Store>(out: &mut String, store: &S) -> Result<(),
 
 // How many executions each running job has.
 pub(crate) fn write_jobs(out: &mut String, book: &Book) -> Result<(), AllocError>
-    ensures { OnOk result (string_bytes out.new ≡ string_bytes out.old ++ lines_from (place_bytes (view [] book.now).executions) 0 (view [] book.now).jobs) }
+    ensures { OnOk result (Appended out.old out.new (lines_from (place_bytes (view [] book.now).executions) 0 (view [] book.now).jobs)) }
 {
     for place in 0..16u8 {
         if book.job(u64::from(place)).is_some() {

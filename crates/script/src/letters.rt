@@ -27,7 +27,7 @@ pub(crate) trait Lettered: Sized {
     ghost reads_back: { IsReadBack letter_of value_of };
 }
 
-// How to lock.
+// A lock to read or to write.
 impl Lettered for Mode {
     ghost letter_of = { mode_letter };
 

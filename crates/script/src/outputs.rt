@@ -7,7 +7,7 @@ use std::fmt;
 
 #[derive(Clone, Copy, PartialEq, Eq, Debug)]
 pub enum OutputLine {
-    // the answer to a line of the script: 0, or the number of its refusal
+    // the answer to a line of the script: 0, or the number of its refusal, which another crate has named
     Answer { number: u32, answer: u8 },
     // the value of an object
     Object { object: u16, value: u64 },
@@ -37,7 +37,7 @@ impl OutputLine {
         format!(in heap; "{self}")
     }
 
-    // Each number is of its type, as its reading shows.
+    // Runs for the proof alone: reading a number shows that it is of its type.
     fn fits(self)
         ensures { FitsTypes self }
     {

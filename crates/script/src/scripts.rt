@@ -20,6 +20,7 @@ pub struct Script {
 }
 
 // Why a script was not read: its first line or its length is at fault, or memory ran out.
+// An error of this crate's own, since callers match on its faults.
 #[derive(Clone, Copy, PartialEq, Eq, Debug)]
 pub enum ReadError {
     Refused(Fault),
@@ -57,11 +58,11 @@ pub fn read_script(heap: Global, script: &[u8]) -> Result<Script, ReadError>
     ensures { MatchResult result (λ s. script_in script.now ≡ Ok (s.setup, s.readings.items)) (λ e. Explains e (script_in script.now)) }
 {
     if script.len() > LONGEST {
-        return Err(ReadError::Refused(Fault::Length));
+        return Err(Fault::Length.into());
     }
     let lines = rows(heap, script)?;
     let [first, others @ ..] = lines.as_slice() else {
-        return Err(ReadError::Refused(Fault::Letter));
+        return Err(Fault::Letter.into());
     };
     let setup = read_setup(first.as_slice())?;
     let readings = read_calls(heap, others)?;

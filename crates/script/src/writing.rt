@@ -29,6 +29,7 @@ pub fn call_line(heap: Global, call: Call) -> Result<String, AllocError>
     }
 }
 
+// Two impls with one body: a `Display` for every type with a letter is not this crate's to give.
 impl fmt::Display for RuleName {
     ghost output = { λ rule. Some (rule_bytes rule) };
 

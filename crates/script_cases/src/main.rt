@@ -103,9 +103,7 @@ mod tests {
     #[test]
     fn long_scripts_are_cut_at_once(rt: HostRuntime) -> Result<(), Fail> {
         let mut script = b"S,C,T,1,4,1".to_vec(rt.alloc())?;
-        for _ in 11..32_768 {
-            script.push(b'\n')?;
-        }
+        script.resize(32_768, b'\n')?;
         let Ok(read) = read_script(rt.alloc(), script.as_slice()) else {
             return Err(Fail::new("refused"));
         };

@@ -85,6 +85,7 @@ impl Store for ImageStore {
         }
         let place = object as usize * BYTES;
         let bytes = value.to_be_bytes();
+        // By bytes: of words that are lent by `as_chunks_mut` nothing is known afterwards.
         self.image[place..place + BYTES].copy_from_slice(&bytes);
         Some(())
     }

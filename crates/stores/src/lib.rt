@@ -1,5 +1,6 @@
 // Two stores: a table of numbers, and an image of bytes.
-// They stay two types: they share no more than the length of a list and a look into it, and one type over both would be longer.
+// They stay two types: callers hand in and take back a table or an image, and only `len` and `read` are alike, each over a list of its own making;
+// one type over both would have a case for each in every other function.
 #![tactic(auto)]
 
 pub mod image;

@@ -1,5 +1,6 @@
 // What is left of records once a job has ended.
-// The type Assumption is of the crate protocol: a trait of its own for its methods here would be no plainer than functions.
+// Functions and no methods of Assumption: its crate, `protocol`, has types and rules and no code that settles, and a trait of methods would be no plainer.
+// Records come with their empty one, and a place with an ending, as the callers of the two public functions have them.
 ghost use Rattle.std.specs.Prelude.{◌≡◌, ℕ, ◌<◌, ◌≤◌, not, ◌&&◌, Option, List, length, replicate, ◌==◌};
 ghost use Rattle.std.specs.List.{filter_map};
 ghost use Rattle.protocol.specs.Places.{single, without};
@@ -52,13 +53,10 @@ fn stays<T: Assuming>(record: &T, place: u8, ending: Ending) -> bool
 }
 
 // Empties every place.
-// The slice method `fill` asks for a clone that cannot fail, which a type that is `Copy` does not promise.
 fn refill<T: Copy>(records: &mut [T], empty: T)
     ensures { records.new ≡ replicate (length records.old) empty }
 {
-    for place in records.iter_mut() {
-        *place = empty;
-    }
+    records.fill_with(|| empty);
 }
 
 // Moves to the front, in order, what is left of each record, and empties the places behind; answers how many are left.

@@ -15,10 +15,8 @@ struct Player<'a> {
 
 impl Player<'_> {
     fn ask(&mut self, call: Call) -> io::Result<()> {
-        let number = match self.book.call(&mut self.store, &ChargeRule, call) {
-            Ok(()) => 0,
-            Err(refusal) => u8::from(refusal),
-        };
+        let answer = self.book.call(&mut self.store, &ChargeRule, call);
+        let number = answer.err().map_or(0, u8::from);
         println!(self.rt; "  {call:?}: {number}")
     }
 

@@ -1,4 +1,5 @@
-// What is asked of a book, in short words. A job that does not matter is a charge of 1.
+// What is asked of a book, in short words. A job that does not matter is a charge of 1; kinds are numbers, as callers write them.
+// Steps are data, so that a case is one list; as calls of methods each line would end in `?`.
 use terms::{Call, Mode};
 
 #[derive(Clone, Copy)]

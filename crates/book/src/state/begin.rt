@@ -5,6 +5,7 @@ ghost use Rattle.protocol.specs.Begin.{begin_refusals};
 ghost use Rattle.protocol.specs.Lists.{first};
 ghost use Rattle.protocol.specs.Model.{new, job_at};
 ghost use Rattle.protocol.specs.Step.{new_refusals};
+ghost use Rattle.book.specs.Tests.{Tested};
 ghost use Rattle.book.specs.View.{view, Follows};
 
 use super::super::place::Place;
@@ -36,7 +37,7 @@ impl Book {
 
     // The kind, where a job of it may begin there.
     fn may_begin<R: JobRule>(&self, rule: &R, place: Place, kind: u64) -> Result<u8, Refusal>
-        ensures { MatchResult result (λ k. (first (begin_refusals (R.JobRule.means rule.now) (view [] self.now) place.number kind) ≡ None) × (job_at (view [] self.now) place.number ≡ None) × (k ≡ kind)) (λ e. first (begin_refusals (R.JobRule.means rule.now) (view [] self.now) place.number kind) ≡ Some e) }
+        ensures { Tested (begin_refusals (R.JobRule.means rule.now) (view [] self.now) place.number kind) (λ k. (job_at (view [] self.now) place.number ≡ None) × (k ≡ kind)) result }
     {
         if self.job(u64::from(place.number)).is_some() {
             return Err(Refusal::PlaceTaken);

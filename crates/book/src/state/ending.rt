@@ -9,7 +9,7 @@ ghost use Rattle.protocol.specs.Settling.{settle};
 ghost use Rattle.book.specs.View.{view, Follows};
 
 use super::super::place::Place;
-use super::super::writing::write_made;
+use super::super::writing::Made;
 use super::Book;
 use holders::{has_open, waits_of};
 use protocol::{Ending, Refusal};
@@ -57,12 +57,11 @@ impl Book {
     {
         let here = Place::try_from(place)?;
         self.may_commit(here)?;
-        write_made(
-            store,
-            self.holdings.in_use(),
-            self.versions.in_use(),
-            here.number,
-        );
+        let made = Made {
+            place: here,
+            versions: self.versions.in_use(),
+        };
+        made.write(store, self.holdings.in_use());
         self.end(here, Ending::Committed);
         Ok(())
     }

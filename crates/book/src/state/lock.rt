@@ -8,6 +8,7 @@ ghost use Rattle.protocol.specs.Model.{job_at, holding_count};
 ghost use Rattle.protocol.specs.Pairing.{kept_pairs};
 ghost use Rattle.protocol.specs.Step.{answer};
 ghost use Rattle.tables.specs.Items.{items};
+ghost use Rattle.book.specs.Tests.{Tested};
 ghost use Rattle.book.specs.View.{view, Follows};
 
 use super::super::offering::Offering;
@@ -20,32 +21,38 @@ use protocol::{Execution, Holding, HoldingState, Job, Refusal};
 use tables::Table;
 use terms::{JobRule, Mode, Store};
 
-// The holding with which a job locks an object.
-fn first_holding(place: Place, object: u64, mode: Mode) -> Holding
-    ensures { result ≡ locked place.number object mode }
-{
-    Holding {
-        job: place.number,
-        object,
-        // no From: neither type is of this crate
-        state: match mode {
-            Mode::Read => HoldingState::Reading,
-            Mode::Write => HoldingState::Open,
-        },
+// What a job wants to lock, and how.
+#[derive(Clone, Copy)]
+struct Wanted {
+    place: Place,
+    object: u64,
+    mode: Mode,
+}
+
+impl Wanted {
+    // The holding with which the job locks the object.
+    fn holding(self) -> Holding
+        ensures { result ≡ locked self.place.number self.object self.mode }
+    {
+        Holding {
+            job: self.place.number,
+            object: self.object,
+            state: HoldingState::from(self.mode),
+        }
     }
 }
 
 impl Book {
     // The job that runs at a place.
     pub(super) fn running(&self, place: Place) -> Result<Job, Refusal>
-        ensures { MatchResult result (λ j. (first (no_job (view [] self.now) place.number) ≡ None) × (job_at (view [] self.now) place.number ≡ Some j)) (λ e. first (no_job (view [] self.now) place.number) ≡ Some e) }
+        ensures { Tested (no_job (view [] self.now) place.number) (λ j. job_at (view [] self.now) place.number ≡ Some j) result }
     {
         self.job(u64::from(place.number)).ok_or(Refusal::NoJob)
     }
 
     // The job that runs at a place, and is not lost.
     pub(super) fn live_job(&self, place: Place) -> Result<Job, Refusal>
-        ensures { MatchResult result (λ j. (first (no_live_job (view [] self.now) place.number) ≡ None) × (job_at (view [] self.now) place.number ≡ Some j)) (λ e. first (no_live_job (view [] self.now) place.number) ≡ Some e) }
+        ensures { Tested (no_live_job (view [] self.now) place.number) (λ j. job_at (view [] self.now) place.number ≡ Some j) result }
     {
         let job = self.running(place)?;
         if self.execution_count(u64::from(place.number)) == 0 {
@@ -55,15 +62,10 @@ impl Book {
     }
 
     // The stored value and how many objects the job holds, where it may come to hold the object.
-    fn admit<S: Store>(
-        &self,
-        store: &S,
-        place: Place,
-        object: u64,
-        mode: Mode,
-    ) -> Result<(u64, usize), Refusal>
-        ensures { MatchResult result (λ x. (first (lock_barred (view (S.Store.values store.now) self.now) place.number object mode) ≡ None) × (x.0 ≡ slice_index (S.Store.values store.now) object) × (x.1 ≡ holding_count (view [] self.now) place.number) × (x.1 < 8)) (λ e. first (lock_barred (view (S.Store.values store.now) self.now) place.number object mode) ≡ Some e) }
+    fn admit<S: Store>(&self, store: &S, wanted: Wanted) -> Result<(u64, usize), Refusal>
+        ensures { Tested (lock_barred (view (S.Store.values store.now) self.now) wanted.place.number wanted.object wanted.mode) (λ x. (x.0 ≡ slice_index (S.Store.values store.now) wanted.object) × (x.1 ≡ holding_count (view [] self.now) wanted.place.number) × (x.1 < 8)) result }
     {
+        let Wanted { place, object, .. } = wanted;
         let stored = store.read(object).ok_or(Refusal::NoSuchObject)?;
         let holdings = self.holdings.in_use();
         if holds_object(holdings, place.number, object) {
@@ -76,7 +78,7 @@ impl Book {
         if is_open(holdings, object) {
             return Err(Refusal::OpenElsewhere);
         }
-        if would_ring(holdings, &first_holding(place, object, mode)) {
+        if would_ring(holdings, &wanted.holding()) {
             return Err(Refusal::WouldWaitForItself);
         }
         Ok((stored, held))
@@ -87,14 +89,17 @@ impl Book {
         &self,
         store: &S,
         rule: &R,
-        place: Place,
-        object: u64,
-        mode: Mode,
+        wanted: Wanted,
     ) -> Result<Table<Execution, 16>, Refusal>
-        ensures { MatchResult result (λ t. (answer (R.JobRule.means rule.now) (view (S.Store.values store.now) self.now) (Lock place.number object mode) ≡ None) × (items t ≡ kept_pairs (R.JobRule.means rule.now) (view (S.Store.values store.now) self.now) place.number object mode)) (λ e. answer (R.JobRule.means rule.now) (view (S.Store.values store.now) self.now) (Lock place.number object mode) ≡ Some e) }
+        ensures { MatchResult result (λ t. (answer (R.JobRule.means rule.now) (view (S.Store.values store.now) self.now) (Lock wanted.place.number wanted.object wanted.mode) ≡ None) × (items t ≡ kept_pairs (R.JobRule.means rule.now) (view (S.Store.values store.now) self.now) wanted.place.number wanted.object wanted.mode)) (λ e. answer (R.JobRule.means rule.now) (view (S.Store.values store.now) self.now) (Lock wanted.place.number wanted.object wanted.mode) ≡ Some e) }
     {
+        let Wanted {
+            place,
+            object,
+            mode,
+        } = wanted;
         let job = self.live_job(place)?;
-        let (stored, held) = self.admit(store, place, object, mode)?;
+        let (stored, held) = self.admit(store, wanted)?;
         let holdings = self.holdings.in_use();
         let offering = Offering { holdings, object };
         let offers = offering.offers(stored, self.versions.in_use());
@@ -127,10 +132,13 @@ impl Book {
         ensures { Follows (R.JobRule.means rule.now) (view (S.Store.values store.now) self.old) (Lock place object mode) result (view (S.Store.values store.now) self.new) }
     {
         let here = Place::try_from(place)?;
-        let found = self.weigh(store, rule, here, object, mode)?;
-        self.holdings
-            .push(first_holding(here, object, mode))
-            .unwrap();
+        let wanted = Wanted {
+            place: here,
+            object,
+            mode,
+        };
+        let found = self.weigh(store, rule, wanted)?;
+        self.holdings.push(wanted.holding()).unwrap();
         self.executions.remove_job(here.number);
         self.executions.extend(found.in_use()).unwrap();
         Ok(())

@@ -1,15 +1,16 @@
-use Rattle.std.proofs.Common.{◌≡◌, ◌∙◌, length, ◌<◌, ap, arith, lit<, rules}
-use Rattle.std.proofs.lemmas.Bool.Decides.{nat_tests}
-use Rattle.planner.specs.Numbers.{with_digit}
-use Rattle.planner.proofs.Tries.{tried, try_folds}
-use Rattle.planner.proofs.Digits.{number_start, tried_digits}
+use Rattle.std.proofs.Common.{◌≡◌, Ok, ◌∙◌, sym, subst, arith}
+use Rattle.std.specs.Str.Parse.{ParsesUnsigned}
+use Rattle.std.proofs.lemmas.Result.{MatchResult-at_ok}
+use Rattle.planner.proofs.Digits.{parsed, no_text}
 use Rattle.planner.proofs.numbers.number.Goals as goal
 
-pub returns : goal.returns
-returns c =
+pub returns-in_err-ok-in-48-to-57 : goal.returns-in_err-ok-in-48-to-57
+returns-in_err-ok-in-48-to-57 c = c.from_residual.ensures ∙ no_text c.args.line.now _ _ c.from_utf8.result c.from_utf8.ensures.cases (sym c.ok.ensures.value ∙ c.in_err-ok-in-48-to-57.was)
+
+pub returns-in_ok-ok-in-48-to-57 : goal.returns-in_ok-ok-in-48-to-57
+returns-in_ok-ok-in-48-to-57 c =
     let line = c.args.line.now in
-    let ran = c.try_fold.ensures.ran in
-    let rest : c.iter.result.rest.now ≡ line = search rules in
-    let some : 0 < length line = grind (arith, nat_tests) in
-    try_folds _ with_digit (λ f b x r f' k. search rules) _ ran.0 ran.1 (tt, 0) ran.2 ran.3 c.iter.result ran.4.0 c.try_fold.new.self c.try_fold.result ran.4.1 ran.4.2 ran.5 ran.6
-    ∙ ap (tried with_digit 0) rest ∙ tried_digits line 0 (lit< tt) ∙ number_start line some
+    let read : c.from_utf8.result ≡ Ok c.in_ok-ok-in-48-to-57.field-0 = grind arith in
+    let text = (MatchResult-at_ok _ _ _ read c.from_utf8.ensures.cases).0 in
+    let parse = subst (λ bs. ParsesUnsigned 64 10 bs c.parse.result) text c.parse.ensures.value.0 in
+    c.ok-in-48-to-57.ensures.value ∙ parsed line c.parse.result parse (λ plus. omega arith)

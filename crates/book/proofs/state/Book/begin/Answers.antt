@@ -43,12 +43,12 @@ invariant_of-self g c =
     let e = new_one p c.start.result in
     let j : Job = record { kind = c.in_ok-kind.kind; argument = c.args.argument } in
     let l : p < length b.jobs = omega (arith, c.in_ok-here.here.below, b.places) in
-    let pushed = with_room 256 (items b.executions) (e ∷ []) (items c.push.new.self) c.push.result c.push.ensures.added (begun_room b.jobs (items b.executions) e j l ok.1 b.runs b.places) in
+    let pushed = with_room 256 (items b.executions) (e ∷ []) (items c.push.new.self) c.push.result c.push.ensures.added (begun_room b.jobs (items b.executions) e j l ok.1.0 b.runs b.places) in
     record {
       limited = b.limited;
       places = length-set b.jobs p (Some j) ∙ b.places;
-      holds = within_begun 8 job_of_holding b.jobs (items b.holdings) b.holds p j ok.1;
-      runs = subst (Within 16 job_of_execution (set b.jobs p (Some j))) (sym pushed) (begun_fits b.jobs (items b.executions) e j l ok.1 b.runs);
+      holds = within_begun 8 job_of_holding b.jobs (items b.holdings) b.holds p j ok.1.0;
+      runs = subst (Within 16 job_of_execution (set b.jobs p (Some j))) (sym pushed) (begun_fits b.jobs (items b.executions) e j l ok.1.0 b.runs);
       ringless = b.ringless;
     }
 
@@ -64,9 +64,9 @@ returns g c = λ values.
     let e = new_one p c.start.result in
     let j : Job = record { kind = k; argument = a } in
     let l : p < length b.jobs = omega (arith, c.in_ok-here.here.below, b.places) in
-    let pushed = with_room 256 (items b.executions) (e ∷ []) (items c.push.new.self) c.push.result c.push.ensures.added (begun_room b.jobs (items b.executions) e j l ok.1 b.runs b.places) in (
+    let pushed = with_room 256 (items b.executions) (e ∷ []) (items c.push.new.self) c.push.result c.push.ensures.added (begun_room b.jobs (items b.executions) e j l ok.1.0 b.runs b.places) in (
       subst (λ p. answer r m (Begin p c.args.kind a) ≡ None) c.in_ok-here.ensures (begin_answer r m p c.args.kind a ∙ ok.0),
-      begun_is r m p k a c.start.result (items c.push.new.self) c.start.ensures.started pushed ∙ ap (λ k. next r m (Begin p k a)) ok.2 ∙ ap (λ p. next r m (Begin p c.args.kind a)) c.in_ok-here.ensures,
+      begun_is r m p k a c.start.result (items c.push.new.self) c.start.ensures.started pushed ∙ ap (λ k. next r m (Begin p k a)) ok.1.1 ∙ ap (λ p. next r m (Begin p c.args.kind a)) c.in_ok-here.ensures,
     )
 
 pub unwrap-requires : goal.unwrap-requires
@@ -76,4 +76,4 @@ unwrap-requires g c =
     let e = new_one p c.start.result in
     let j : Job = record { kind = c.in_ok-kind.kind; argument = c.args.argument } in
     let l : p < length b.jobs = omega (arith, c.in_ok-here.here.below, b.places) in
-    room_ok 256 (items b.executions) (e ∷ []) (items c.push.new.self) c.push.result c.push.ensures.added (begun_room b.jobs (items b.executions) e j l c.in_ok-kind.ensures.1 b.runs b.places)
+    room_ok 256 (items b.executions) (e ∷ []) (items c.push.new.self) c.push.result c.push.ensures.added (begun_room b.jobs (items b.executions) e j l c.in_ok-kind.ensures.1.0 b.runs b.places)

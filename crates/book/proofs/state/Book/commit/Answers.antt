@@ -28,12 +28,12 @@ pub returns : goal.returns
 returns g c = λ rule.
     let b = c.args.self.now in
     let xs = g.S.Store.values c.args.store.now in
-    let ys = g.S.Store.values c.write_made.new.store in
+    let ys = g.S.Store.values c.write.new.store in
     let m = view xs b in
     let p = c.in_ok-here.here.number in
     let ok = c.in_ok-may_commit.ensures in
     let vs : ys ≡ written p (items b.versions) (items b.holdings) xs =
-    c.write_made.ensures ∙ ap (λ l. written p l c.in_use.result.now xs) c.in_use-2.ensures ∙ ap (λ l. written p (items b.versions) l xs) c.in_use.ensures in
+    c.write.ensures ∙ ap (λ l. written p l c.in_use-2.result.now xs) c.in_use.ensures ∙ ap (λ l. written p (items b.versions) l xs) c.in_use-2.ensures in
     subst (λ p. (answer rule m (Commit p) ≡ None) × (view ys c.end.new.self ≡ next rule m (Commit p))) c.in_ok-here.ensures (
       commit_answer rule m p ∙ first_append (no_live_job m p) (commit_barred m p) ok.0 ∙ ok.1,
       c.end.ensures xs ys ∙ ap (λ (l : List ℕ). settle Committed p l m) vs ∙ committed_is rule m p,

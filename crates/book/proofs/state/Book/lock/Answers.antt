@@ -32,8 +32,8 @@ invariant_of-self g c =
     let o = c.args.object in
     let mode = c.args.mode in
     let ok = c.in_ok-found.ensures in
-    let new = c.first_holding.ensures in
-    let hs = lock_holdings r m p o mode b.places b.limited b.holds b.runs ok.0 c.first_holding.result (items c.push.new.self) c.push.result new c.push.ensures.added in
+    let new = c.holding.ensures in
+    let hs = lock_holdings r m p o mode b.places b.limited b.holds b.runs ok.0 c.holding.result (items c.push.new.self) c.push.result new c.push.ensures.added in
     let es = lock_executions r m p o mode b.places b.limited b.holds b.runs ok.0 (items c.remove_job.new.self) c.in_use.result.now (items c.extend.new.self) c.extend.result c.remove_job.ensures.becomes (c.in_use.ensures ∙ ok.1) c.extend.ensures.added in
     record {
       limited = b.limited;
@@ -53,7 +53,7 @@ returns g c =
     let o = c.args.object in
     let mode = c.args.mode in
     let ok = c.in_ok-found.ensures in
-    let hs = lock_holdings r m p o mode b.places b.limited b.holds b.runs ok.0 c.first_holding.result (items c.push.new.self) c.push.result c.first_holding.ensures c.push.ensures.added in
+    let hs = lock_holdings r m p o mode b.places b.limited b.holds b.runs ok.0 c.holding.result (items c.push.new.self) c.push.result c.holding.ensures c.push.ensures.added in
     let es = lock_executions r m p o mode b.places b.limited b.holds b.runs ok.0 (items c.remove_job.new.self) c.in_use.result.now (items c.extend.new.self) c.extend.result c.remove_job.ensures.becomes (c.in_use.ensures ∙ ok.1) c.extend.ensures.added in (
       subst (λ p. answer r m (Lock p o mode) ≡ None) c.in_ok-here.ensures ok.0,
       locked_is r m p o mode (items c.push.new.self) (items c.extend.new.self) hs es ∙ ap (λ p. next r m (Lock p o mode)) c.in_ok-here.ensures,
@@ -66,7 +66,7 @@ unwrap-requires g c =
     let m = view (g.S.Store.values c.args.store.now) b in
     let p = c.in_ok-here.here.number in
     let ok = c.in_ok-found.ensures in
-    lock_holds r m p c.args.object c.args.mode b.places b.limited b.holds b.runs ok.0 c.first_holding.result (items c.push.new.self) c.push.result c.push.ensures.added
+    lock_holds r m p c.args.object c.args.mode b.places b.limited b.holds b.runs ok.0 c.holding.result (items c.push.new.self) c.push.result c.push.ensures.added
 
 pub unwrap-requires-2 : goal.unwrap-requires-2
 unwrap-requires-2 g c =

@@ -11,16 +11,16 @@ loop-i-preserved c =
     let now = string_bytes c.loop-i.out in
     elim c.match-reading.branch [
       | in-Ok w ↦
-          rw w.next-is (
-          line_of_call rs c.loop-i.i _ c.loop-i-test.true c.loop-i.next.rest.now now _ c.loop-i.invariant _ _ w.flatten.result _ w.in-Ok.is
-          (let n = next_answer c.loop-i.next w.next.new.self w.next.result w.next.ensures.steps in (w.flatten.ensures ∙ ap option_flatten w.copied.ensures ∙ n.0, n.1))
+          rw w.left-is (
+          line_of_call rs c.loop-i.i _ c.loop-i-test.true c.loop-i.left.rest.now now _ c.loop-i.invariant _ _ w.flatten.result _ w.in-Ok.is
+          (let n = next_answer c.loop-i.left w.next.new.self w.next.result w.next.ensures.steps in (w.flatten.ensures ∙ ap option_flatten w.copied.ensures ∙ n.0, n.1))
           (c.in_ok-write_line.ensures ∙ ap (λ a. now ++ answer_bytes (c.loop-i.i + 2) a) (w.answer-is ∙ w.answer_number-answer.ensures))
           )
       | in-Err w ↦
-          rw w.next-is (line_of_fault rs c.loop-i.i _ c.loop-i-test.true c.loop-i.next.rest.now now _ c.loop-i.invariant _ _ w.in-Err.is
+          rw w.left-is (line_of_fault rs c.loop-i.i _ c.loop-i-test.true c.loop-i.left.rest.now now _ c.loop-i.invariant _ _ w.in-Err.is
           (c.in_ok-write_line.ensures ∙ ap (λ a. now ++ answer_bytes (c.loop-i.i + 2) a) (w.answer-is ∙ w.from-answer.ensures)))
     ]
 
 pub returns : goal.returns
 returns c =
-    lines_told c.args.self.now.readings.now c.loop-i.i c.loop-i.next.rest.now (string_bytes c.loop-i.out) _ c.loop-i-test.false c.loop-i.invariant
+    lines_told c.args.self.now.readings.now c.loop-i.i c.loop-i.left.rest.now (string_bytes c.loop-i.out) _ c.loop-i-test.false c.loop-i.invariant
