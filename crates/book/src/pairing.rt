@@ -56,6 +56,7 @@ impl<R: JobRule> Request<'_, R> {
         ensures added { Added found.old.limit (items found.old.pairs) (filter (is_kept self.now.robustness) (map (meeting (R.JobRule.means self.now.rule.now) self.now execution.now) offers.now)) (items found.new.pairs) result }
         ensures within { found.new.limit ≡ found.old.limit }
     {
+        // a loop over `filter_map` was tried: in a generic function it gets no proof
         for offer in offers {
             if let Some(pair) = self.meet(execution, offer) {
                 found.add(pair)?;

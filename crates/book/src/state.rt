@@ -21,6 +21,7 @@ mod ready;
 pub struct Book {
     robustness: u8,
     limit: usize,
+    // an array by place, since a book's memory has one size
     jobs: [Option<Job>; 16],
     holdings: Table<Holding, 128>,
     executions: Table<Execution, 256>,

@@ -16,6 +16,7 @@ pub enum ChargeKind {
     Plan = 3,
 }
 
+// A reader of its own: the variants are this enum's, and one for both rules would be a table of each.
 impl TryFrom<u8> for ChargeKind {
     type Error = UnknownKind;
 

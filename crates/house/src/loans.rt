@@ -15,6 +15,7 @@ pub enum LoanKind {
     Extend = 3,
 }
 
+// A reader of its own, as for `ChargeKind`.
 impl TryFrom<u8> for LoanKind {
     type Error = UnknownKind;
 

@@ -26,7 +26,7 @@ pub fn job_line<S: Store, R: JobRule>(store: &S, rule: &R, kind: u8, argument: u
     ensures { result ≡ line (R.JobRule.means rule.now) kind argument (S.Store.values store.now) }
 {
     let mut work = rule.start(kind, argument);
-    // A fold would put these two steps into a closure within a closure.
+    // A fold's closure would hold the same test, and an `else` besides.
     for object in 0..store.len() {
         if let Some(met) = store.read(object) {
             work = rule.take(kind, argument, work, object, Mode::Read, met);

@@ -79,7 +79,7 @@ impl Lettered for StoreName {
 }
 
 impl Line<'_> {
-    // The setup that the line gives; only the first line of a script gives one.
+    // The setup that the line gives; only the first line of a script gives one. No `TryFrom`, as for `call`.
     pub fn setup(&self) -> Result<Setup, Fault>
         ensures { result ≡ setup_asked self.now }
     {

@@ -8,7 +8,7 @@ use std::alloc::{AllocError, Global};
 use std::fmt;
 use terms::Call;
 
-// The line that asks for a call.
+// The line that asks for a call. `Call` is of the crate `terms`, so a `Display` for it is not this crate's to give.
 pub fn call_line(heap: Global, call: Call) -> Result<String, AllocError>
     ensures { IfOk result (λ s. string_bytes s ≡ call_bytes call) }
 {
