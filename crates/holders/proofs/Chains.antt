@@ -12,20 +12,20 @@ use Rattle.holders.proofs.Joins.{join_assoc, join_none, none_join, placed_join, 
 
 -- the set, with the job of a holding
 abbrev pub with_job : PlaceSet → Holding → PlaceSet
-with_job set h = record { mask = join set.mask (placed (single h.job)) }
+with_job set h = join set (placed (single h.job))
 
-pub jobs_folded : (t : Holding → Bool) (hs : List Holding) (set : PlaceSet) → (fold with_job set (filter t hs)).mask ≡ join set.mask (placed (jobs_of t hs))
+pub jobs_folded : (t : Holding → Bool) (hs : List Holding) (set : PlaceSet) → fold with_job set (filter t hs) ≡ join set (placed (jobs_of t hs))
 unfolding jobs_of
-jobs_folded t [] set = sym (ap (join set.mask) placed_zero ∙ join_none set.mask)
+jobs_folded t [] set = sym (ap (join set) placed_zero ∙ join_none set)
 jobs_folded t (h ∷ hs) set = go (t h) (jobs_folded t hs (with_job set h)) (jobs_folded t hs set)
   where
     go : (b : Bool)
-        → (fold with_job (with_job set h) (filter t hs)).mask ≡ join (with_job set h).mask (placed (jobs_of t hs))
-        → (fold with_job set (filter t hs)).mask ≡ join set.mask (placed (jobs_of t hs))
-        → (fold with_job set (cond b (h ∷ filter t hs) (filter t hs))).mask ≡ join set.mask (placed (join (cond b (single h.job) 0) (jobs_of t hs)))
+        → fold with_job (with_job set h) (filter t hs) ≡ join (with_job set h) (placed (jobs_of t hs))
+        → fold with_job set (filter t hs) ≡ join set (placed (jobs_of t hs))
+        → fold with_job set (cond b (h ∷ filter t hs) (filter t hs)) ≡ join set (placed (join (cond b (single h.job) 0) (jobs_of t hs)))
     go true with_h without_h =
-        with_h ∙ join_assoc set.mask (placed (single h.job)) (placed (jobs_of t hs)) ∙ ap (join set.mask) (sym (placed_join (single h.job) (jobs_of t hs)))
-    go false with_h without_h = without_h ∙ ap (λ n. join set.mask (placed n)) (sym (none_join (jobs_of t hs)))
+        with_h ∙ join_assoc set (placed (single h.job)) (placed (jobs_of t hs)) ∙ ap (join set) (sym (placed_join (single h.job) (jobs_of t hs)))
+    go false with_h without_h = without_h ∙ ap (λ n. join set (placed n)) (sym (none_join (jobs_of t hs)))
 
 -- where object o stands is how many of the job's objects stand before it
 pub position_counted : (p o : ℕ) (hs : List Holding) → length (take_while (λ h. not (eqb h.object o)) (filter (held_by p) hs)) ≡ position p o hs

@@ -3,11 +3,10 @@ use Rattle.std.proofs.Common.{◌≡◌, ℕ, suc, ◌<◌, Bool, true, false, c
 use Rattle.protocol.specs.declared.holdings.Holding.{Holding}
 use Rattle.protocol.specs.Holdings.{jobs_of, makers, later_makers, holds, waits, new_waits, reach, would_ring}
 use Rattle.protocol.specs.Places.{has, single, join, placed}
-use Rattle.protocol.proofs.SetDigits.{placed_same, single_below}
+use Rattle.protocol.proofs.SetDigits.{has_placed, placed_same, single_below}
 use Rattle.holders.specs.Placed.{Placed}
-use Rattle.holders.specs.Sets.{blocks}
-use Rattle.holders.proofs.Joins.{join_below, placed_zero, has_placed}
-use Rattle.holders.proofs.Sets.{jobs_none, jobs_more, waits_none, waits_more}
+use Rattle.holders.proofs.Joins.{join_below, placed_zero}
+use Rattle.holders.proofs.Sets.{blocks, jobs_none, jobs_more, waits_none, waits_more}
 
 part_below : (b : Bool) (p : ℕ) → p < 16 → cond b (single p) 0 < 65536
 part_below true p l = single_below p l
@@ -30,10 +29,6 @@ jobs_placed t = whole (jobs_of t) (λ h _. t h) (jobs_none t) (jobs_more t)
 pub makers_placed : (o : ℕ) (hs : List Holding) → Placed hs → placed (makers o hs) ≡ makers o hs
 unfolding makers
 makers_placed o = jobs_placed _
-
-pub new_waits_placed : (hs : List Holding) (h : Holding) → Placed hs → placed (new_waits hs h) ≡ new_waits hs h
-unfolding new_waits
-new_waits_placed hs h = jobs_placed _ hs
 
 pub waits_placed : (hs : List Holding) (p : ℕ) → Placed hs → placed (waits hs p) ≡ waits hs p
 waits_placed hs p = whole (λ hs. waits hs p) (blocks p) (waits_none p) (waits_more p) hs

@@ -1,18 +1,17 @@
--- One more holding: its job waits for those in its way besides, and nobody else for more.
-use Rattle.std.proofs.Common.{◌≡◌, ℕ, ◌+◌, ◌<◌, ◌≤◌, Bool, true, false, cond, not, ◌&&◌, ◌||◌, eqb, List, [], ◌∷◌, ◌++◌, length, get_or, take, set, replicate, sym, refl, ap, ◌∙◌, ap₂, inl, inr, arith}
-use Rattle.std.specs.List.{list_any}
-use Rattle.std.proofs.lemmas.List.{take_more, length-set, length-replicate, get_or-replicate, get_or-set_same, get_or-set_other}
+-- One more holding: its job waits for those in its way besides, and no other job for more.
+use Rattle.std.proofs.Common.{◌≡◌, ℕ, zero, suc, ◌+◌, ◌<◌, Bool, true, false, cond, not, ◌&&◌, ◌||◌, eqb, List, [], ◌∷◌, ◌++◌, length, get_or, take, drop, sym, refl, ap, ◌∙◌, ap₂, arith}
+use Rattle.std.specs.Prelude.{filter, fold}
+use Rattle.std.specs.List.{list_any, enumerate_from}
+use Rattle.std.proofs.lemmas.List.{take_more, take_all, drop_all, at_drop_more}
 use Rattle.std.proofs.lemmas.List.Folds.{list_any-append}
 use Rattle.std.proofs.Math.Bool.{and-false, or-false}
-use Rattle.std.proofs.lemmas.Bool.{cases_eq, eqb-true, eq-eqb, ne_eqb}
+use Rattle.std.proofs.lemmas.Bool.{eqb-true, eqb-false, eq-eqb, ne_eqb}
 use Rattle.protocol.specs.declared.holdings.Holding.{Holding}
-use Rattle.protocol.specs.declared.places.PlaceSet.{PlaceSet}
 use Rattle.protocol.specs.Holdings.{waits, new_waits, jobs_of, clash}
 use Rattle.protocol.specs.Places.{single, join, placed}
 use Rattle.protocol.specs.Empty.{no_holding}
-use Rattle.holders.specs.Sets.{nobody, mask_at, blocks}
 use Rattle.holders.proofs.Joins.{join_none, none_join, join_self, join_across, placed_join, placed_zero, placed_cond}
-use Rattle.holders.proofs.Sets.{waits_none, waits_more}
+use Rattle.holders.proofs.Sets.{blocks, waits_none, waits_more}
 
 new_none : (h : Holding) → new_waits [] h ≡ 0
 unfolding new_waits jobs_of
@@ -66,53 +65,47 @@ module _ (h : Holding) (p : ℕ) where
       ∙ join_across (cond (blocks p g gs) (single g.job) 0) (cond (own && t h) (single g.job) 0) (waits gs p) (by gs)
       ∙ ap₂ join (sym (waits_more p g gs)) (by_more g gs)
 
--- ---- the sets of all places
--- the p-th set has what job p waits for by the first i holdings
-pub record Waiting (hs : List Holding) (sets : List PlaceSet) (i : ℕ) : Type 0 where
-  pub long : length sets ≡ 16
-  pub told : (p : ℕ) → p < 16 → mask_at sets p ≡ placed (waits (take i hs) p)
-
-pub waiting_none : (hs : List Holding) → Waiting hs (replicate 16 nobody) 0
-waiting_none hs = record {
-  long = length-replicate 16 nobody;
-  told = λ p l. ap (λ (s : PlaceSet). s.mask) (get_or-replicate 16 p nobody nobody l) ∙ sym (ap placed (waits_none p) ∙ placed_zero);
-}
-
-module _ (hs : List Holding) (sets : List PlaceSet) (i : ℕ) (l : i < length hs) (inv : Waiting hs sets i) where
-  abbrev h : Holding
-  h = get_or hs i no_holding
-
-  -- what one more holding adds to the p-th set
-  grown : (p : ℕ) → placed (waits (take (i + 1) hs) p) ≡ join (placed (waits (take i hs) p)) (cond (eqb h.job p) (placed (new_waits (take i hs) h)) 0)
-  grown p =
-      ap (λ gs. placed (waits gs p)) (take_more hs i no_holding l) ∙ ap placed (waits_push h p (take i hs))
+module _ (p : ℕ) (hs : List Holding) (i : ℕ) (l : i < length hs) (set : ℕ) (inv : set ≡ placed (waits (take i hs) p)) where
+  -- what the i-th holding adds
+  grown : (d : Holding) → placed (waits (take (i + 1) hs) p) ≡ join set (cond (eqb (get_or hs i d).job p) (placed (new_waits (take i hs) (get_or hs i d))) 0)
+  grown d =
+      let h = get_or hs i d in
+      ap (λ gs. placed (waits gs p)) (take_more hs i d l) ∙ ap placed (waits_push h p (take i hs))
       ∙ placed_join (waits (take i hs) p) (cond (eqb h.job p) (new_waits (take i hs) h) 0)
-      ∙ ap (join (placed (waits (take i hs) p))) (placed_cond (eqb h.job p) (new_waits (take i hs) h))
+      ∙ ap₂ join (sym inv) (placed_cond (eqb h.job p) (new_waits (take i hs) h))
 
-  same : (p : ℕ) → (h.job ≡ p → ⊥) → placed (waits (take (i + 1) hs) p) ≡ placed (waits (take i hs) p)
-  same p ne =
-      grown p ∙ ap (λ b. join (placed (waits (take i hs) p)) (cond b (placed (new_waits (take i hs) h)) 0)) (ne_eqb h.job p ne)
-      ∙ join_none (placed (waits (take i hs) p))
+  pub waits_own : (d : Holding) → (get_or hs i d).job ≡ p → join set (placed (new_waits (take i hs) (get_or hs i d))) ≡ placed (waits (take (i + 1) hs) p)
+  waits_own d e = let h = get_or hs i d in sym (grown d ∙ ap (λ b. join set (cond b (placed (new_waits (take i hs) h)) 0)) (eq-eqb h.job p e))
 
-  pub waiting_skip : 16 ≤ (get_or hs i no_holding).job → Waiting hs sets (i + 1)
-  waiting_skip far = record { long = inv.long; told = λ p m. inv.told p m ∙ sym (same p (λ e. omega arith)) }
+  pub waits_other : (d : Holding) → ((get_or hs i d).job ≡ p → ⊥) → set ≡ placed (waits (take (i + 1) hs) p)
+  waits_other d ne = let h = get_or hs i d in sym (grown d ∙ ap (λ b. join set (cond b (placed (new_waits (take i hs) h)) 0)) (ne_eqb h.job p ne) ∙ join_none set)
 
-  pub waiting_more : (new : PlaceSet) → (get_or hs i no_holding).job < 16 → new.mask ≡ join (mask_at sets (get_or hs i no_holding).job) (placed (new_waits (take i hs) (get_or hs i no_holding)))
-      → Waiting hs (set sets (get_or hs i no_holding).job new) (i + 1)
-  waiting_more new near is = record {
-    long = length-set sets h.job new ∙ inv.long;
-    told = λ p m. elim (cases_eq h.job p) [ inl e ↦ here p e | inr ne ↦ other p m ne ];
-  }
+-- the waits of a job, folded over its own holdings, each with its place among all
+module _ (p : ℕ) (hs : List Holding) where
+  abbrev pub own : ℕ × Holding → Bool
+  own x = eqb x.1.job p
+
+  abbrev pub with_own : ℕ → ℕ × Holding → ℕ
+  with_own set x = join set (placed (new_waits (take x.0 hs) x.1))
+
+  folded_from : (n i set : ℕ) → i + n ≡ length hs → set ≡ placed (waits (take i hs) p) → fold with_own set (filter own (enumerate_from i (drop i hs))) ≡ placed (waits hs p)
+  folded_from zero i set e inv =
+      ap (λ l. fold with_own set (filter own (enumerate_from i l))) (drop_all i hs (omega arith)) ∙ inv ∙ ap (λ gs. placed (waits gs p)) (take_all i hs (omega arith))
+  folded_from (suc n) i set e inv =
+      at_drop_more (λ l. fold with_own set (filter own (enumerate_from i l))) hs i no_holding l ∙ go (eqb h.job p) refl (λ s q. folded_from n (i + 1) s (omega arith) q)
     where
-      here : (p : ℕ) → h.job ≡ p → mask_at (set sets h.job new) p ≡ placed (waits (take (i + 1) hs) p)
-      here p e =
-          let q = h.job in
-          ap (λ p. mask_at (set sets q new) p) (sym e)
-          ∙ ap (λ (s : PlaceSet). s.mask) (get_or-set_same sets q new nobody (omega (arith, inv.long))) ∙ is
-          ∙ ap (λ a. join a (placed (new_waits (take i hs) h))) (inv.told q near)
-          ∙ sym (grown q ∙ ap (λ b. join (placed (waits (take i hs) q)) (cond b (placed (new_waits (take i hs) h)) 0)) (eq-eqb q q refl))
-          ∙ ap (λ p. placed (waits (take (i + 1) hs) p)) e
+      l : i < length hs
+      l = omega arith
 
-      other : (p : ℕ) → p < 16 → (h.job ≡ p → ⊥) → mask_at (set sets h.job new) p ≡ placed (waits (take (i + 1) hs) p)
-      other p m ne =
-          ap (λ (s : PlaceSet). s.mask) (get_or-set_other sets h.job p new nobody (λ e. ne (sym e))) ∙ inv.told p m ∙ sym (same p ne)
+      h : Holding
+      h = get_or hs i no_holding
+
+      rest : List (ℕ × Holding)
+      rest = filter own (enumerate_from (i + 1) (drop (i + 1) hs))
+
+      go : (b : Bool) → eqb h.job p ≡ b → ((s : ℕ) → s ≡ placed (waits (take (i + 1) hs) p) → fold with_own s rest ≡ placed (waits hs p)) → fold with_own set (cond b ((i, h) ∷ rest) rest) ≡ placed (waits hs p)
+      go true t more = more (join set (placed (new_waits (take i hs) h))) (waits_own p hs i l set inv no_holding (eqb-true h.job p t))
+      go false t more = more set (waits_other p hs i l set inv no_holding (eqb-false h.job p t))
+
+  pub waits_folded : fold with_own 0 (filter own (enumerate_from 0 hs)) ≡ placed (waits hs p)
+  waits_folded = folded_from (length hs) 0 0 (omega arith) (sym (ap placed (waits_none p) ∙ placed_zero))

@@ -5,8 +5,9 @@ use Rattle.std.specs.List.{zip, range_with_len}
 use Rattle.protocol.specs.declared.places.PlaceSet.{PlaceSet}
 use Rattle.protocol.specs.Holdings.{spread, rounds, reach}
 use Rattle.protocol.specs.Places.{has, join, placed}
-use Rattle.holders.specs.Sets.{mask_at}
-use Rattle.holders.proofs.Joins.{none_join, join_comm, placed_join, placed_cond, has_placed}
+use Rattle.std.specs.Prelude.{slice_index}
+use Rattle.protocol.proofs.SetDigits.{has_placed}
+use Rattle.holders.proofs.Joins.{none_join, join_comm, placed_join, placed_cond}
 
 pub spread_none : (w : ℕ → ℕ) (s : ℕ) → spread w 0 s ≡ s
 unfolding spread
@@ -27,7 +28,7 @@ rounds_more w n s = refl
 -- ---- what the chains give
 -- the set, with one of a row of sets
 abbrev pub with_set : PlaceSet → ℕ × PlaceSet → PlaceSet
-with_set all p = record { mask = join all.mask p.1.mask }
+with_set all p = join all p.1
 
 spread_step : (w : ℕ → ℕ) (n s : ℕ) (b : Bool) → has s n ≡ b → spread w (n + 1) s ≡ join (cond b (w n) 0) (spread w n s)
 spread_step w n s b h = ap (λ k. spread w k s) (add-one n) ∙ spread_more w n s ∙ ap (λ b. join (cond b (w n) 0) (spread w n s)) h
@@ -37,35 +38,35 @@ module _ (w : ℕ → ℕ) (s : ℕ) where
   abbrev added : ℕ → List PlaceSet → List (ℕ × PlaceSet)
   added a row = filter (λ p. has s p.0) (zip (range_with_len a (length row)) row)
 
-  spread_folded : (a : ℕ) (row : List PlaceSet) (all : PlaceSet) → ((k : ℕ) → k < length row → mask_at row k ≡ w (a + k)) → all.mask ≡ spread w a s
-      → (fold with_set all (added a row)).mask ≡ spread w (a + length row) s
+  spread_folded : (a : ℕ) (row : List PlaceSet) (all : PlaceSet) → ((k : ℕ) → k < length row → slice_index row k ≡ w (a + k)) → all ≡ spread w a s
+      → fold with_set all (added a row) ≡ spread w (a + length row) s
   spread_folded a [] all is so = so ∙ ap (λ n. spread w n s) (omega arith)
   spread_folded a (x ∷ row) all is so =
       go (has s a) refl
       (λ more e. spread_folded (a + 1) row more (λ k l. is (suc k) (omega arith) ∙ ap w (omega arith)) e ∙ ap (λ n. spread w n s) (omega arith))
     where
       go : (b : Bool) → has s a ≡ b
-          → ((more : PlaceSet) → more.mask ≡ spread w (a + 1) s → (fold with_set more (added (a + 1) row)).mask ≡ spread w (a + suc (length row)) s)
-          → (fold with_set all (cond b ((a, x) ∷ added (a + 1) row) (added (a + 1) row))).mask ≡ spread w (a + suc (length row)) s
+          → ((more : PlaceSet) → more ≡ spread w (a + 1) s → fold with_set more (added (a + 1) row) ≡ spread w (a + suc (length row)) s)
+          → fold with_set all (cond b ((a, x) ∷ added (a + 1) row) (added (a + 1) row)) ≡ spread w (a + suc (length row)) s
       go true h rest =
-          let first : x.mask ≡ w a = is 0 (omega arith) ∙ ap w (omega arith) in
-          rest (with_set all (a, x)) (join_comm all.mask x.mask ∙ ap₂ join first so ∙ sym (spread_step w a s true h))
+          let first : x ≡ w a = is 0 (omega arith) ∙ ap w (omega arith) in
+          rest (with_set all (a, x)) (join_comm all x ∙ ap₂ join first so ∙ sym (spread_step w a s true h))
       go false h rest = rest all (so ∙ sym (spread_step w a s false h ∙ none_join (spread w a s)))
 
 pub spread_row : (n : ℕ) (row : List PlaceSet) (set : PlaceSet) → length row ≡ n
-    → (fold with_set set (filter (λ p. has set.mask p.0) (zip (range_with_len 0 n) row))).mask ≡ spread (mask_at row) n set.mask
+    → fold with_set set (filter (λ p. has set p.0) (zip (range_with_len 0 n) row)) ≡ spread (slice_index row) n set
 spread_row n row set long =
-    let w = mask_at row in
+    let w = slice_index row in
     rw (← long)
-    (spread_folded w set.mask 0 row set (λ k l. ap w (omega arith)) (sym (spread_none w set.mask)) ∙ ap (λ n. spread w n set.mask) (omega arith))
+    (spread_folded w set 0 row set (λ k l. ap w (omega arith)) (sym (spread_none w set)) ∙ ap (λ n. spread w n set) (omega arith))
 
 -- one round after another
 abbrev pub round : (ℕ → ℕ) → PlaceSet → ℕ → PlaceSet
-round w all n = record { mask = spread w 16 all.mask }
+round w all n = spread w 16 all
 
-pub rounds_folded : (w : ℕ → ℕ) (ns : List ℕ) (all : PlaceSet) → (fold (round w) all ns).mask ≡ rounds w (length ns) all.mask
-rounds_folded w [] all = sym (rounds_none w all.mask)
-rounds_folded w (n ∷ ns) all = rounds_folded w ns (round w all n) ∙ sym (rounds_more w (length ns) all.mask)
+pub rounds_folded : (w : ℕ → ℕ) (ns : List ℕ) (all : PlaceSet) → (fold (round w) all ns) ≡ rounds w (length ns) all
+rounds_folded w [] all = sym (rounds_none w all)
+rounds_folded w (n ∷ ns) all = rounds_folded w ns (round w all n) ∙ sym (rounds_more w (length ns) all)
 
 -- ---- the places
 -- only the sixteen places count: v has what w says of each of them, cut to the places

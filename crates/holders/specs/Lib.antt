@@ -1,3 +1,2 @@
 pub mod Placed
-pub mod Sets
 pub mod Imaging

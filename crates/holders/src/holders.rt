@@ -36,7 +36,7 @@ pub fn has_open(holdings: &[Holding], place: u8) -> bool
     holdings.iter().any(|holding| holding.job == place && holding.state == HoldingState::Open)
 }
 
-// How many objects a job holds. The book counts records of every kind; this crate knows holdings alone.
+// How many objects a job holds. The book counts records of every kind that names a job; this crate knows holdings alone, by a place of 8 bits.
 pub fn count_held(holdings: &[Holding], place: u8) -> usize
     ensures { result ≡ length (filter (held_by place) holdings.now) }
 {
@@ -47,7 +47,7 @@ pub fn count_held(holdings: &[Holding], place: u8) -> usize
 }
 
 // Where the object stands among those that a job holds; how many these are, where it is none of them.
-// A number and no option, as the rules have it: they ask only where the job holds the object.
+// A number and no option: it answers in every case, as the rules do, which ask only where the job holds the object.
 pub fn position(holdings: &[Holding], place: u8, object: u64) -> usize
     ensures { result ≡ position_of place object holdings.now }
 {
@@ -60,7 +60,7 @@ pub fn position(holdings: &[Holding], place: u8, object: u64) -> usize
 
 // The makers of the object.
 pub fn makers(holdings: &[Holding], object: u64) -> PlaceSet
-    ensures { result.mask ≡ placed (makers_of object holdings.now) }
+    ensures { result ≡ placed (makers_of object holdings.now) }
 {
     jobs_passing(holdings, |holding| {
         holding.object == object && holding.state == HoldingState::Turned
@@ -69,7 +69,7 @@ pub fn makers(holdings: &[Holding], object: u64) -> PlaceSet
 
 // Those of them that locked the object after a job did; none where it does not hold it.
 pub fn later_makers(holdings: &[Holding], object: u64, place: u8) -> PlaceSet
-    ensures { result.mask ≡ placed (later_makers object place holdings.now) }
+    ensures { result ≡ placed (later_makers object place holdings.now) }
 {
     let own = holdings
         .iter()

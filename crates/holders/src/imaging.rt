@@ -33,8 +33,12 @@ pub fn find_open(holdings: &[Holding], place: u8, object: u64) -> Result<(), Ref
         place: u64::from(place),
         object,
     };
-    let is_open = holdings
+    if holdings
         .iter()
-        .any(|holding| imaged(*holding, image).is_ok());
-    is_open.then_some(()).ok_or(Refusal::NotOpen)
+        .any(|holding| imaged(*holding, image).is_ok())
+    {
+        Ok(())
+    } else {
+        Err(Refusal::NotOpen)
+    }
 }

@@ -1,5 +1,5 @@
 // Who holds what, who makes what, who waits for whom, and the ring test: questions about holdings in the order of locking.
-// They take any slice and any number of a place, and no struct that would ask something of either.
+// They take any slice and any number of a place, as their callers have them; a struct of a slice would have to be made for each call.
 #![tactic(auto)]
 
 mod gathering;

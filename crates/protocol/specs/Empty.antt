@@ -1,7 +1,6 @@
 -- The empty records, which stand where there is none.
 use Rattle.std.specs.Prelude.{replicate}
 use Rattle.protocol.specs.declared.assumptions.Execution.{Execution}
-use Rattle.protocol.specs.declared.assumptions.Offer.{Offer}
 use Rattle.protocol.specs.declared.assumptions.Version.{Version}
 use Rattle.protocol.specs.declared.holdings.Holding.{Holding}
 use Rattle.protocol.specs.declared.holdings.HoldingState.TheVariants.{Reading}
@@ -18,7 +17,3 @@ no_version = record { object = 0; maker = 0; value = 0; assumes = assume 0 0 }
 -- a holding of nothing
 abbrev pub no_holding : Holding
 no_holding = record { job = 0; object = 0; state = Reading }
-
--- an offer of nothing
-abbrev pub no_offer : Offer
-no_offer = record { value = 0; assumes = assume 0 0 }

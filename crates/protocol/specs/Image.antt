@@ -15,13 +15,15 @@ use Rattle.protocol.specs.Places.{single, join}
 
 -- the object is not to be imaged by the job
 abbrev pub image_barred : Model → ℕ → ℕ → List (Bool × Refusal)
-image_barred m p o =
-    (nat_le (length m.values) o, NoSuchObject) ∷ (not (list_any (λ h. holds p o h && opened h.state) m.holdings), NotOpen)
-    ∷ (nat_lt 256 (length m.versions + length (executions_of p m)), TooManyVersions) ∷ []
+image_barred m p o = (nat_le (length m.values) o, NoSuchObject) ∷ (not (list_any (λ h. holds p o h && opened h.state) m.holdings), NotOpen) ∷ []
+
+-- with those that the job makes there would be too many versions
+abbrev pub image_crowded : Model → ℕ → List (Bool × Refusal)
+image_crowded m p = (nat_lt 256 (length m.versions + length (executions_of p m)), TooManyVersions) ∷ []
 
 -- the tests of an image
 abbrev pub image_refusals : Model → ℕ → ℕ → List (Bool × Refusal)
-image_refusals m p o = no_live_job m p ++ image_barred m p o
+image_refusals m p o = no_live_job m p ++ image_barred m p o ++ image_crowded m p
 
 -- the version of object o that an execution of job j makes, where o is the n-th object that the job holds: its own job is one of those that commit
 abbrev pub version_by : Rule → Option Job → ℕ → ℕ → Execution → Version

@@ -1,5 +1,5 @@
 // What is taken of how running jobs will end, and the records that rest on it.
-// Each has its EMPTY as a const of its own: a table of fixed memory begins as `[EMPTY; 256]`, and no caller would name such a const through a trait.
+// Each has its EMPTY as a const of its own, since a table of fixed memory begins as `[EMPTY; 256]`; a trait for them would ask it of every record that a table takes.
 use super::places::PlaceSet;
 
 // A guess: which running jobs will commit, and which will abort.

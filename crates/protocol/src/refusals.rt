@@ -2,7 +2,7 @@
 ghost use Rattle.std.specs.Prelude.{◌≡◌};
 ghost use Rattle.protocol.specs.Refusals.{refusal_number};
 
-// Each by the number that answers it.
+// Each by the number that answers it; it is told by that alone, so it has no text.
 #[derive(Clone, Copy, PartialEq, Eq, Debug)]
 pub enum Refusal {
     RobustnessTooLarge = 1,

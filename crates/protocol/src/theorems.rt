@@ -15,103 +15,77 @@ ghost use Rattle.protocol.specs.Cases.{Agree};
 
 // The law of the book.
 #[tactic(auto, using(crate::proofs::Law::law))]
-pub fn overlapping_jobs_leave_what_they_would_one_by_one() -> u8
+pub fn overlapping_jobs_leave_what_they_would_one_by_one()
     ensures { Stands }
-{
-    0
-}
+{}
 
 // Sets of places, told by their members.
 #[tactic(auto, using(crate::proofs::SetLaws::set_laws))]
-pub fn sets_have_the_members_they_should() -> u8
+pub fn sets_have_the_members_they_should()
     ensures { SetLaws }
-{
-    0
-}
+{}
 
 // Which number a call is answered.
 #[tactic(auto, using(crate::proofs::RefusalExact::refusal_laws))]
-pub fn the_first_reason_that_applies_is_answered() -> u8
+pub fn the_first_reason_that_applies_is_answered()
     ensures { RefusalLaws }
-{
-    0
-}
+{}
 
 // The reasons to refuse a call, in plain words.
 #[tactic(auto, using(crate::proofs::ReasonsTell::reason_laws))]
-pub fn each_test_passes_exactly_when_its_reason_holds() -> u8
+pub fn each_test_passes_exactly_when_its_reason_holds()
     ensures { ReasonLaws }
-{
-    0
-}
+{}
 
 // Who waits for whom.
 #[tactic(auto, using(crate::proofs::WaitingExact::waiting_laws))]
-pub fn a_job_waits_for_those_who_held_its_objects_before() -> u8
+pub fn a_job_waits_for_those_who_held_its_objects_before()
     ensures { WaitingLaws }
-{
-    0
-}
+{}
 
 // The test for a ring of waits.
 #[tactic(auto, using(crate::proofs::RingTest::ring_test))]
-pub fn a_lock_is_refused_for_a_ring_exactly_when_it_closes_one() -> u8
+pub fn a_lock_is_refused_for_a_ring_exactly_when_it_closes_one()
     ensures { RingTest }
-{
-    0
-}
+{}
 
 // What an object offers, and which executions a lock leaves.
 #[tactic(auto, using(crate::proofs::PairingExact::pairing_laws))]
-pub fn a_lock_keeps_exactly_the_pairs_that_agree() -> u8
+pub fn a_lock_keeps_exactly_the_pairs_that_agree()
     ensures { PairingLaws }
-{
-    0
-}
+{}
 
 // What a commit and an abort leave.
 #[tactic(auto, using(crate::proofs::SettlingExact::settling_laws))]
-pub fn an_end_drops_exactly_what_took_the_other_ending() -> u8
+pub fn an_end_drops_exactly_what_took_the_other_ending()
     ensures { SettlingLaws }
-{
-    0
-}
+{}
 
 // What a job has when it commits, and what is then in the store.
-pub fn a_commit_writes_the_one_version_of_each_turned_object() -> u8
+pub fn a_commit_writes_the_one_version_of_each_turned_object()
     ensures { CommitLaws }
-{
-    0
-}
+{}
 
 // The order of an object's versions.
 #[tactic(auto, using(crate::proofs::MakersOrder::version_order))]
-pub fn versions_stand_in_the_order_of_the_locks_of_their_makers() -> u8
+pub fn versions_stand_in_the_order_of_the_locks_of_their_makers()
     ensures { VersionOrder }
-{
-    0
-}
+{}
 
 // What the history says of holdings and running jobs.
 #[tactic(auto, using(crate::proofs::HistoryBook::history_laws))]
-pub fn a_holding_begins_with_a_lock_and_ends_with_its_job() -> u8
+pub fn a_holding_begins_with_a_lock_and_ends_with_its_job()
     ensures { HistoryLaws }
-{
-    0
-}
+{}
 
 // What the history says of relying and of ended jobs.
 #[tactic(auto, using(crate::proofs::RelyingExact::relying_laws))]
-pub fn a_lock_makes_a_job_rely_on_makers_and_on_whom_they_rely() -> u8
+pub fn a_lock_makes_a_job_rely_on_makers_and_on_whom_they_rely()
     ensures { RelyingLaws }
-{
-    0
-}
+{}
 
 // Overlaps worked out by hand.
 #[tactic(auto, using(crate::proofs::Cases::all_agree))]
-pub fn worked_cases_agree() -> u8
+pub fn worked_cases_agree()
     ensures { Agree }
-{
-    0
-}
+{}

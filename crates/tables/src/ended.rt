@@ -1,7 +1,7 @@
 // What is left of records once a job has ended.
-// Functions and no methods of Assumption: its crate, `protocol`, has types and rules and no code that settles, and a trait of methods would be no plainer.
-// Records come with their empty one, and a place with an ending, as the callers of the two public functions have them.
-ghost use Rattle.std.specs.Prelude.{◌≡◌, ℕ, ◌<◌, ◌≤◌, not, ◌&&◌, Option, List, length, replicate, ◌==◌};
+// Records come with their empty one, which fills the places that are no longer in use, so that no trait has to give it; a place and an ending come
+// as a table's methods and the book have them.
+ghost use Rattle.std.specs.Prelude.{◌≡◌, not, ◌&&◌, Option, length, replicate, ◌==◌};
 ghost use Rattle.std.specs.List.{filter_map};
 ghost use Rattle.protocol.specs.Places.{single, without};
 ghost use Rattle.protocol.specs.Settling.{survives, settled};
@@ -10,31 +10,54 @@ ghost use Rattle.tables.specs.Ended.{others, settled_records, Compacted};
 use super::records::{Assuming, NamesJob};
 use protocol::{Assumption, Ending, PlaceSet};
 
-// Whether an assumption did not take the job to end the other way.
-fn survives(assumption: Assumption, place: u8, ending: Ending) -> bool
-    ensures { result ≡ survives ending place assumption }
-{
-    match ending {
-        Ending::Committed => !assumption.aborts.has(place),
-        Ending::Aborted => !assumption.commits.has(place),
+// A job that has ended, by its place, and how it ended.
+#[derive(Clone, Copy)]
+struct Ended {
+    place: u8,
+    ending: Ending,
+}
+
+impl Ended {
+    // Whether an assumption did not take the job to end the other way.
+    fn survives(self, assumption: Assumption) -> bool
+        ensures { result ≡ survives self.ending self.place assumption }
+    {
+        match self.ending {
+            Ending::Committed => !assumption.aborts.has(self.place),
+            Ending::Aborted => !assumption.commits.has(self.place),
+        }
     }
-}
 
-// The set without the job.
-#[tactic(auto, using(crate::proofs::PlaceLaws::without_placed))]
-fn without(set: PlaceSet, place: u8) -> PlaceSet
-    ensures { result.mask ≡ without set.mask (single place) }
-{
-    set.without(PlaceSet::only(place))
-}
+    // The set without the job.
+    #[tactic(auto, using(crate::proofs::PlaceLaws::without_placed))]
+    fn without(self, set: PlaceSet) -> PlaceSet
+        ensures { result ≡ without set (single self.place) }
+    {
+        set.without(PlaceSet::only(self.place))
+    }
 
-// The assumption with the job taken out of both sets.
-fn settled(assumption: Assumption, place: u8) -> Assumption
-    ensures { result ≡ settled place assumption }
-{
-    Assumption {
-        commits: without(assumption.commits, place),
-        aborts: without(assumption.aborts, place),
+    // The assumption with the job taken out of both sets.
+    fn settled(self, assumption: Assumption) -> Assumption
+        ensures { result ≡ settled self.place assumption }
+    {
+        Assumption {
+            commits: self.without(assumption.commits),
+            aborts: self.without(assumption.aborts),
+        }
+    }
+
+    // Whether a record is left.
+    fn is_left<T: Assuming>(self, record: &T) -> bool
+        ensures { result ≡ (not (T.NamesJob.named «record».now == self.place) && survives self.ending self.place (T.Assuming.taken «record».now)) }
+    {
+        is_other(record, self.place) && self.survives(record.assumption())
+    }
+
+    // A record that is left, without the job.
+    fn without_job<T: Assuming>(self, record: T) -> T
+        ensures { result ≡ T.Assuming.assuming «record» (settled self.place (T.Assuming.taken «record»)) }
+    {
+        record.assume(self.settled(record.assumption()))
     }
 }
 
@@ -45,14 +68,7 @@ fn is_other<T: NamesJob>(record: &T, place: u8) -> bool
     record.job() != place
 }
 
-// Whether a record is left once the job has ended.
-fn stays<T: Assuming>(record: &T, place: u8, ending: Ending) -> bool
-    ensures { result ≡ (not (T.NamesJob.named «record».now == place) && survives ending place (T.Assuming.taken «record».now)) }
-{
-    is_other(record, place) && survives(record.assumption(), place, ending)
-}
-
-// Empties every place.
+// Empties every place. `fill` would ask for a clone that cannot fail, and of that `Copy` says nothing.
 fn refill<T: Copy>(records: &mut [T], empty: T)
     ensures { records.new ≡ replicate (length records.old) empty }
 {
@@ -80,9 +96,12 @@ fn compact<T: Copy, F: Fn(T) -> Option<T>>(records: &mut [T], empty: T, left: F)
 pub fn settle<T: Assuming>(records: &mut [T], empty: T, place: u8, ending: Ending) -> usize
     ensures { Compacted empty (settled_records T.NamesJob.named T.Assuming.taken T.Assuming.assuming ending place records.old) records.old result records.new }
 {
-    compact(records, empty, |record| {
-        stays(&record, place, ending).then_some(record.assume(settled(record.assumption(), place)))
-    })
+    let ended = Ended { place, ending };
+    compact(
+        records,
+        empty,
+        |record| ended.is_left(&record).then_some(ended.without_job(record)),
+    )
 }
 
 // Drops the records of an ended job; answers how many are left.

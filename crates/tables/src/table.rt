@@ -1,7 +1,8 @@
 // A table: room for N records, of which the first `count` are in use, in order, and the rest are empty.
 // An array and a count, and no vector: a book's memory is of one fixed size, a new book's arrays are written out as `[EMPTY; 256]`,
 // and what is not in use is always empty, which a vector in fixed room would not say.
-ghost use Rattle.std.specs.Prelude.{◌≡◌, ℕ, ◌-◌, ◌≤◌, length, drop, replicate};
+// Ghost fields and no model: what a new table promises speaks of all its places.
+ghost use Rattle.std.specs.Prelude.{◌≡◌, ◌-◌, ◌≤◌, length, drop, replicate};
 
 mod access;
 mod ending;

@@ -1,10 +1,10 @@
 // An open holding becomes turned.
-ghost use Rattle.std.specs.Prelude.{◌≡◌, ℕ, ◌≤◌, List, map, length};
+ghost use Rattle.std.specs.Prelude.{◌≡◌, map};
 ghost use Rattle.protocol.specs.Holdings.{turn};
 
 use protocol::{Holding, HoldingState};
 
-// The holding as it is once the job has imaged the object.
+// The holding as it is once the job has imaged the object. `holders::imaged` refuses besides, and is of a crate beside this one.
 fn turned(holding: Holding, place: u8, object: u64) -> Holding
     ensures { result ≡ turn place object holding }
 {

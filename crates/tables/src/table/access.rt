@@ -1,15 +1,13 @@
 // Making a table, reading it and adding to it.
-ghost use Rattle.std.specs.Prelude.{◌≡◌, ℕ, ◌+◌, ◌-◌, ◌<◌, ◌≤◌, List, [], ◌∷◌, ◌++◌, length, replicate};
-ghost use Rattle.tables.specs.Items.{items, Added};
+ghost use Rattle.std.specs.Prelude.{◌≡◌, [], ◌∷◌, length};
+ghost use Rattle.tables.specs.Items.{items, Added, IsUnused};
 
 use super::{Full, Table};
 
 impl<T: Copy, const N: usize> Table<T, N> {
     // A table with nothing in use.
     pub fn new(empty: T) -> Table<T, N>
-        ensures starts { items result ≡ [] }
-        ensures whole { result.records ≡ replicate N empty }
-        ensures spare { result.empty ≡ empty }
+        ensures { IsUnused empty result }
     {
         Table {
             records: [empty; N],
@@ -54,6 +52,7 @@ impl<T: Copy, const N: usize> Table<T, N> {
             return Err(Full);
         }
         let end = self.count + more.len();
+        // by a slice of the whole: of an array of N a front is lent, and no part from one place to another
         let all = &mut self.records[..];
         all[self.count..end].copy_from_slice(more);
         self.count = end;

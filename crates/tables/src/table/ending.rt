@@ -1,5 +1,4 @@
 // What is left of a table once a job has ended.
-ghost use Rattle.std.specs.Prelude.{◌≡◌, ℕ, ◌≤◌, List};
 ghost use Rattle.tables.specs.Ended.{others, settled_records};
 ghost use Rattle.tables.specs.Items.{items, Becomes};
 

@@ -1,5 +1,5 @@
 // A table of holdings.
-ghost use Rattle.std.specs.Prelude.{◌≡◌, ℕ, ◌≤◌, List, map};
+ghost use Rattle.std.specs.Prelude.{map};
 ghost use Rattle.protocol.specs.Holdings.{turn};
 ghost use Rattle.tables.specs.Items.{items, Becomes};
 

@@ -1,6 +1,4 @@
-use Rattle.std.proofs.Common.{◌≡◌, ◌&&◌, ℕ, Bool, true, false, Ok, Err, if◌then◌else◌, cond, rules, refl, ap, ◌∙◌}
-use Rattle.std.specs.Bool.{then_some}
-use Rattle.std.specs.Option.{ok_or}
+use Rattle.std.proofs.Common.{◌≡◌, ◌&&◌, ℕ, Bool, true, false, Ok, Err, cond, rules, refl}
 use Rattle.std.specs.Result.{is_ok}
 use Rattle.std.proofs.lemmas.Iterator.{YieldsList-from_slice}
 use Rattle.std.proofs.lemmas.Iterator.Search.{any_from_yields_List}
@@ -20,13 +18,16 @@ turns p o h = go (holds p o h && opened h.state)
     go true = refl
     go false = refl
 
-answered : (b : Bool) → ok_or (then_some b (tt {0})) NotOpen ≡ (if b then Ok (tt {0}) else Err NotOpen)
-answered true = refl
-answered false = refl
-
-pub returns : goal.returns
-returns c =
+pub returns-then-any : goal.returns-then-any
+returns-then-any c =
     let p = c.args.place in
     let o = c.args.object in
-    let any = any_from_yields_List (λ h. holds p o h && opened h.state) _ _ _ c.any-is_open.ensures.ran (YieldsList-from_slice c.args.holdings.now cc) (λ x b q k. let t = turns p o x.now in search (rules, tests)) in
-    rw (← any) (c.ok_or.ensures.value ∙ ap (λ s. ok_or s NotOpen) c.then_some.ensures ∙ answered c.any-is_open.result)
+    let any = any_from_yields_List (λ h. holds p o h && opened h.state) _ _ _ c.any.ensures.ran (YieldsList-from_slice c.args.holdings.now cc) (λ x b q k. let t = turns p o x.now in search (rules, tests)) in
+    rw (← any, c.if-any.true) refl
+
+pub returns-else-any : goal.returns-else-any
+returns-else-any c =
+    let p = c.args.place in
+    let o = c.args.object in
+    let any = any_from_yields_List (λ h. holds p o h && opened h.state) _ _ _ c.any.ensures.ran (YieldsList-from_slice c.args.holdings.now cc) (λ x b q k. let t = turns p o x.now in search (rules, tests)) in
+    rw (← any, c.if-any.false) refl
