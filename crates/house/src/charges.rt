@@ -16,7 +16,7 @@ pub enum ChargeKind {
     Plan = 3,
 }
 
-// A reader of its own: the variants are this enum's, and one for both rules would be a table of each.
+// A match of its own: a `find` among the kinds by their numbers, or one function for both rules, would name each kind all the same.
 impl TryFrom<u8> for ChargeKind {
     type Error = UnknownKind;
 

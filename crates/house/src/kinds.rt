@@ -1,4 +1,4 @@
-// The number of no kind of job. Each rule reads its own kinds: their variants differ, so one reader for both would be a table of each, no plainer.
+// The number of no kind of job.
 ghost use Rattle.std.specs.Prelude.{◌++◌, Some, codes, decimal};
 
 use std::error::Error;
@@ -9,6 +9,7 @@ pub struct UnknownKind {
     pub number: u8,
 }
 
+// Written out: the `Display` that `thiserror::Error` derives has no `output`, so what it writes could not be proved.
 impl fmt::Display for UnknownKind {
     ghost output = { λ unknown. Some (codes "no kind of job has number " ++ decimal unknown.number) };
 

@@ -15,7 +15,7 @@ pub enum LoanKind {
     Extend = 3,
 }
 
-// A reader of its own, as for `ChargeKind`.
+// A match of its own, as for `ChargeKind`.
 impl TryFrom<u8> for LoanKind {
     type Error = UnknownKind;
 
@@ -47,7 +47,7 @@ pub struct Loan {
 }
 
 // The low 32 bits of a value are the day, and the high ones the team.
-const DAYS: u64 = 4294967296;
+const DAYS: u64 = 1 << 32;
 
 // The loan that a value says.
 impl From<u64> for Loan {

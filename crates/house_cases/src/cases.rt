@@ -1,7 +1,7 @@
 // Cases of the house rules. What is expected comes from a second reading of the rules, made apart from the code.
 use terms::Mode;
 
-// Kind, argument, working value, mode and value met; then whether the kind is known, and what start, take and give make.
+// Kinds by their numbers, since those that no rule knows are cases too: kind, argument, working value, mode and value met; then whether the kind is known, and what start, take and give make.
 pub type Case = ((u8, u64, u64, Mode, u64), (bool, u64, u64, u64));
 
 pub const CHARGES: [Case; 48] = [

@@ -7,7 +7,7 @@ mod cases;
 #[cfg(test)]
 mod tests {
     use super::cases::{CHARGES, Case, LOANS};
-    use house::{ChargeRule, LoanRule};
+    use house::{ChargeKind, ChargeRule, LoanRule};
     use planner::{Fault, job_line, read_packs};
     use std::test::Fail;
     use stores::{ImageStore, TableStore};
@@ -36,12 +36,13 @@ mod tests {
 
     #[test]
     fn two_packs_last_twenty_hours(rt: HostRuntime) -> Result<(), Fail> {
+        let kind = ChargeKind::Plan.into();
         let table = TableStore::new(vec![in rt.alloc(); 200, 80]?);
-        assert_eq!(rt; job_line(&table, &ChargeRule, 3, 25), 20);
+        assert_eq!(rt; job_line(&table, &ChargeRule, kind, 25), 20);
         let image = ImageStore::new(vec![in rt.alloc();
             0, 0, 0, 0, 0, 0, 0, 200, 0, 0, 0, 0, 0, 0, 0, 80, 9,
         ]?);
-        assert_eq!(rt; job_line(&image, &ChargeRule, 3, 25), 20);
+        assert_eq!(rt; job_line(&image, &ChargeRule, kind, 25), 20);
         Ok(())
     }
 

@@ -1,9 +1,9 @@
 -- A text, cut at its first line feed.
 use Rattle.std.proofs.Common.{◌≡◌, ℕ, suc, ◌+◌, ◌-◌, ◌<◌, ◌≤◌, Bool, true, false, cond, not, eqb, List, [], ◌∷◌, Some, None, length, take, drop, length-drop, sym, refl, ap, ap₂, ◌∙◌, arith}
-use Rattle.std.specs.List.{position, position_or_len}
+use Rattle.std.specs.List.{position, position_or_len, onto_first}
 use Rattle.std.proofs.lemmas.List.{take_all, take_rest, drop_all}
 use Rattle.std.proofs.lemmas.Bool.Decides.{nat_tests}
-use Rattle.planner.specs.Packs.{before_feed, after_feed, onto, lines_of}
+use Rattle.planner.specs.Packs.{before_feed, after_feed, lines_of}
 
 -- where the first line feed stands
 abbrev feed_at : List ℕ → ℕ
@@ -49,5 +49,5 @@ first_line (x ∷ []) = λ h.
     (elim (eqb x 10) as P [ true ↦ refl | false ↦ refl ]) ∙ ap₂ (λ f r. f ∷ lines_of r) (sym (before_cons x [])) (sym (after_cons x []))
 first_line (x ∷ y ∷ ys) = λ h.
     let ih = first_line (y ∷ ys) (omega arith) in
-    let P : Bool → Type 0 = λ b. cond b ([] ∷ lines_of (y ∷ ys)) (onto x (lines_of (y ∷ ys))) ≡ cond b [] (x ∷ before_feed (y ∷ ys)) ∷ lines_of (cond b (y ∷ ys) (after_feed (y ∷ ys))) in
-    (elim (eqb x 10) as P [ true ↦ refl | false ↦ ap (onto x) ih ]) ∙ ap₂ (λ f r. f ∷ lines_of r) (sym (before_cons x (y ∷ ys))) (sym (after_cons x (y ∷ ys)))
+    let P : Bool → Type 0 = λ b. cond b ([] ∷ lines_of (y ∷ ys)) (onto_first x (lines_of (y ∷ ys))) ≡ cond b [] (x ∷ before_feed (y ∷ ys)) ∷ lines_of (cond b (y ∷ ys) (after_feed (y ∷ ys))) in
+    (elim (eqb x 10) as P [ true ↦ refl | false ↦ ap (onto_first x) ih ]) ∙ ap₂ (λ f r. f ∷ lines_of r) (sym (before_cons x (y ∷ ys))) (sym (after_cons x (y ∷ ys)))

@@ -1,4 +1,4 @@
-pub mod Left
+pub mod Taken
 pub mod Sheets
 pub mod Digits
 pub mod Cuts

@@ -1,6 +1,6 @@
 -- Packs as text: one number to a line.
 use Rattle.std.specs.Prelude.{ℕ, ◌+◌, cond, List, [], ◌∷◌, ◌++◌, length, Some, None, Ok, Err, Option, Result, ◌==◌, nat_lt}
-use Rattle.std.specs.List.{before_first, after_first}
+use Rattle.std.specs.List.{before_first, after_first, onto_first}
 use Rattle.planner.specs.declared.faults.Fault.{Fault}
 use Rattle.planner.specs.declared.faults.Fault.TheVariants.{NoNumber, TooMany}
 use Rattle.planner.specs.Numbers.{number_of}
@@ -13,15 +13,10 @@ before_feed text = before_first (λ byte. byte == 10) text
 abbrev pub after_feed : List ℕ → List ℕ
 after_feed text = after_first (λ byte. byte == 10) text
 
--- a byte before the first of some lines
-abbrev pub onto : ℕ → List (List ℕ) → List (List ℕ)
-onto byte [] = (byte ∷ []) ∷ []
-onto byte (line ∷ rest) = (byte ∷ line) ∷ rest
-
 -- the lines of a text: a line feed ends each, and may be missing at the end
 unfoldable pub lines_of : List ℕ → List (List ℕ)
 lines_of [] = []
-lines_of (byte ∷ rest) = cond (byte == 10) ([] ∷ lines_of rest) (onto byte (lines_of rest))
+lines_of (byte ∷ rest) = cond (byte == 10) ([] ∷ lines_of rest) (onto_first byte (lines_of rest))
 
 -- the answer for a line that is this number, and for one that is none
 abbrev pub by_number : {A : Type 0} → Option ℕ → A → (ℕ → A) → A

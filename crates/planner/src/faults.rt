@@ -16,7 +16,7 @@ pub enum Fault {
     NoMemory,
 }
 
-// These are written out, since their clauses say what comes of each fault: what a derive writes has none.
+// Written out: what `thiserror::Error` derives has no `from_gives` and no `output`, so the fault that comes and its text could not be proved.
 impl<T: Drop> From<AllocFailed<T>> for Fault {
     ghost from_gives = { λ _ fault. fault ≡ NoMemory };
 

@@ -1,4 +1,4 @@
-// Reads a number of decimal digits.
+// Reads a number of decimal digits. `fields` reads numbers too, but of at most 18 digits and with none of them a leading 0.
 ghost use Rattle.std.specs.Prelude.{◌≡◌};
 ghost use Rattle.planner.specs.Numbers.{number_of};
 

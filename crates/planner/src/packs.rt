@@ -8,7 +8,7 @@ use super::numbers::number;
 use std::alloc::Global;
 use terms::MOST_OBJECTS;
 
-// The first line of a text, and the text after its line feed. `fields` cuts the same way, but tells the place of each part.
+// The first line of a text, and the text after its line feed. `fields` tells the place of each part besides.
 pub fn cut_line(text: &[u8]) -> (&[u8], &[u8])
     ensures line { result.0.now ≡ before_feed text.now }
     ensures rest { result.1.now ≡ after_feed text.now }
@@ -25,7 +25,8 @@ pub fn read_packs(heap: Global, text: &[u8]) -> Result<Vec<u64>, Fault>
 {
     let mut packs = Vec::new(heap);
     let mut rest = text;
-    // No index is counted: a line's number is that of the packs before it, and one.
+    // `split` would find a line in an empty text, and one after a last line feed; `split_inclusive` keeps each line feed, and would leave `cut_line`, which is public, without a caller.
+    // A line's number is that of the packs before it, and one.
     while !rest.is_empty() {
         let line = packs.len() + 1;
         if line > MOST_OBJECTS {

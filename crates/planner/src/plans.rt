@@ -25,13 +25,11 @@ impl fmt::Display for Line {
 pub fn job_line<S: Store, R: JobRule>(store: &S, rule: &R, kind: u8, argument: u64) -> u64
     ensures { result ≡ line (R.JobRule.means rule.now) kind argument (S.Store.values store.now) }
 {
-    let mut work = rule.start(kind, argument);
-    // A fold's closure would hold the same test, and an `else` besides.
-    for object in 0..store.len() {
-        if let Some(met) = store.read(object) {
-            work = rule.take(kind, argument, work, object, Mode::Read, met);
-        }
-    }
+    let work = (0..store.len())
+        .filter_map(|object| Some((object, store.read(object)?)))
+        .fold(rule.start(kind, argument), |work, (object, met)| {
+            rule.take(kind, argument, work, object, Mode::Read, met)
+        });
     rule.give(kind, argument, work, store.len(), 0)
 }
 

@@ -6,17 +6,11 @@ use Rattle.std.proofs.lemmas.List.{length-map, map-set, take-append-drop, take-t
 use Rattle.std.proofs.Math.Seq.{take-append_seam, drop-append_seam}
 use Rattle.std.proofs.lemmas.Nat.{from_be_bytes-to_be_bytes_8}
 use Rattle.stores.specs.Image.{image_words, image_values, word_put}
-use Rattle.stores.proofs.Firsts.{take_fewer, take_set, take_alike, map_alike}
+use Rattle.stores.proofs.Firsts.{take_set, take_alike, map_alike}
 
 chunks_many : {X : Type 0} (n k : ℕ) (xs : List X) → length (first_chunks n k xs) ≡ k
 chunks_many n zero xs = refl
 chunks_many n (suc k) xs = ap (λ (j : ℕ). suc j) (chunks_many n k (drop n xs))
-
-pub words_first : (bs : List ℕ) → take (min (length bs / 8) 65536) (first_chunks 8 (length bs / 8) bs) ≡ image_words bs
-unfolding image_words
-words_first bs =
-    let chunks = first_chunks 8 (length bs / 8) bs in
-    ap (λ n. take (min n 65536) chunks) (sym (chunks_many 8 (length bs / 8) bs)) ∙ take_fewer 65536 chunks
 
 pub image_length : (bs : List ℕ) → length (image_values bs) ≡ min 65536 (length bs / 8)
 unfolding image_words image_values

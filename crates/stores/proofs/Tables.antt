@@ -1,11 +1,7 @@
 -- The objects of a table.
-use Rattle.std.proofs.Common.{◌≡◌, ℕ, ◌≤◌, min, List, length, take, set, replicate, arith}
+use Rattle.std.proofs.Common.{◌≡◌, ℕ, ◌≤◌, min, List, length, set, replicate, arith}
 use Rattle.stores.specs.Table.{table_values, table_length}
-use Rattle.stores.proofs.Firsts.{take_fewer, take_set, take_alike}
-
-pub table_first : (xs : List ℕ) → take (min (length xs) 65536) xs ≡ table_values xs
-unfolding table_values
-table_first xs = take_fewer 65536 xs
+use Rattle.stores.proofs.Firsts.{take_set, take_alike}
 
 pub table_within : (xs : List ℕ) → length (table_values xs) ≤ length xs
 table_within xs = omega (arith, table_length xs)

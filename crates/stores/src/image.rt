@@ -1,10 +1,11 @@
 // A store over an image of bytes, eight for each object, the highest first.
 ghost use Rattle.std.specs.Prelude.{◌≡◌, ◌*◌, min, replicate, IfOk, slice_set};
-ghost use Rattle.terms.specs.Objects.{value_at, has_object};
+ghost use Rattle.terms.specs.Objects.{has_object};
 ghost use Rattle.stores.specs.Image.{image_words, image_values, image_short, image_written};
 
+use super::objects::first_objects;
 use std::alloc::{AllocError, Global};
-use terms::{MOST_OBJECTS, Store};
+use terms::Store;
 
 const BYTES: usize = 8;
 
@@ -33,12 +34,12 @@ impl ImageStore {
     }
 
     // The words of the objects, each of eight bytes.
-    #[tactic(auto, using(crate::proofs::Images::words_first))]
+    #[tactic(auto, unfolding(crate::specs::Image::image_words))]
     fn words(&self) -> &[[u8; BYTES]]
         ensures { result.now ≡ image_words self.now.image.items }
     {
         let (words, _) = self.image.as_chunks();
-        &words[..words.len().min(MOST_OBJECTS)]
+        first_objects(words)
     }
 
     // The bytes, those of no object too.
@@ -83,10 +84,10 @@ impl Store for ImageStore {
         if object >= self.len() {
             return None;
         }
-        let place = object as usize * BYTES;
-        let bytes = value.to_be_bytes();
-        // By bytes: of words that are lent by `as_chunks_mut` nothing is known afterwards.
-        self.image[place..place + BYTES].copy_from_slice(&bytes);
+        // By one word: of words that `as_chunks_mut` or `chunks_exact_mut` lends, nothing is known once they are given back.
+        let (_, rest) = self.image.split_at_mut(object as usize * BYTES);
+        let word = rest.first_chunk_mut().unwrap();
+        *word = value.to_be_bytes();
         Some(())
     }
 }

@@ -1,10 +1,11 @@
 // A store over a table of numbers, one for each object.
 ghost use Rattle.std.specs.Prelude.{◌≡◌, min, replicate, IfOk, slice_set};
-ghost use Rattle.terms.specs.Objects.{value_at, has_object};
+ghost use Rattle.terms.specs.Objects.{has_object};
 ghost use Rattle.stores.specs.Table.{table_values, table_short, table_written};
 
+use super::objects::first_objects;
 use std::alloc::{AllocError, Global};
-use terms::{MOST_OBJECTS, Store};
+use terms::Store;
 
 #[derive(Drop)]
 pub struct TableStore {
@@ -31,11 +32,11 @@ impl TableStore {
     }
 
     // The numbers of the objects.
-    #[tactic(auto, using(crate::proofs::Tables::table_first))]
+    #[tactic(auto, unfolding(crate::specs::Table::table_values))]
     fn objects(&self) -> &[u64]
         ensures { result.now ≡ table_values self.now.numbers.items }
     {
-        &self.numbers[..self.numbers.len().min(MOST_OBJECTS)]
+        first_objects(&self.numbers)
     }
 
     // The numbers, those past the last object too.

@@ -1,24 +1,10 @@
-use Rattle.std.proofs.Common.{◌+◌, ◌<◌, ◌≤◌, length, sym, ap, ◌∙◌, arith}
-use Rattle.terms.specs.declared.modes.Mode.TheVariants.{Read}
-use Rattle.planner.proofs.Left.{work_at_end, one_more, no_more, value_met, value_there}
+use Rattle.std.proofs.Common.{◌≡◌, length, rules, ap, ◌∙◌, arith}
+use Rattle.std.proofs.lemmas.Iterator.{YieldsList-from_range}
+use Rattle.std.proofs.lemmas.Iterator.Consumers.{fold_from_yields_List, YieldsList-from_filter_map}
+use borrow.Author.Tests.{tests}
+use Rattle.house.specs.Work.{work_of, worked, reads_from}
+use Rattle.planner.proofs.Taken.{met_at, taken, all_taken}
 use Rattle.planner.proofs.plans.job_line.Goals as goal
-use Rattle.planner.proofs.plans.job_line.Goals.{in-Some, in_default}
-
-pub loop-object-preserved : goal.loop-object-preserved
-loop-object-preserved g c =
-    let rule = g.R.JobRule.means c.args.rule.now in
-    let values = g.S.Store.values c.args.store.now in
-    let kind = c.args.kind in
-    let argument = c.args.argument in
-    let object = c.loop-object.object in
-    let here : object < length values = omega arith in
-    elim c.match-read.branch [
-      | in-Some w ↦
-          ap (λ work. work_at_end rule kind argument values work (object + 1))
-          (w.work-is ∙ w.take-work.ensures.taken ∙ ap (rule.take kind argument c.loop-object.work object Read) (value_met values object w.in-Some.met here w.in-Some.ensures.reads))
-          ∙ sym (one_more rule kind argument values c.loop-object.work object here) ∙ c.loop-object.invariant
-      | in_default w ↦ absurd (value_there values object here w.in_default.ensures.reads)
-    ]
 
 pub returns : goal.returns
 returns g c =
@@ -26,6 +12,10 @@ returns g c =
     let values = g.S.Store.values c.args.store.now in
     let kind = c.args.kind in
     let argument = c.args.argument in
-    let done : length values ≤ c.loop-object.object = omega arith in
-    let work = sym (no_more rule kind argument values c.loop-object.work c.loop-object.object done) ∙ c.loop-object.invariant in
-    c.give.ensures.given ∙ ap (λ n. rule.give kind argument c.loop-object.work n 0) c.len.ensures.counts ∙ ap (λ n. rule.give kind argument n (length values) 0) work
+    let work : c.fold-work.result ≡ work_of rule kind argument (reads_from 0 values) =
+    fold_from_yields_List _ (taken rule kind argument) _ _ c.fold-work.ensures.ran
+    (YieldsList-from_filter_map _ (met_at values) (YieldsList-from_range 0 c.len.result (length values) (cc) (omega arith)) c.filter_map.ensures.closure (λ x r q k. search (rules, tests)))
+    (λ a x b q k. search rules)
+    ∙ all_taken rule kind argument c.start.result values
+    ∙ ap (λ n. worked rule kind argument n (reads_from 0 values)) c.start.ensures.started in
+    cc
