@@ -3,10 +3,9 @@
 --   words m w     the parts of w between its marks
 --   lines_of s    the lines of the script s
 --   rows_of s     the fields of each of its lines
-use Rattle.std.specs.Prelude.{ℕ, ◌+◌, ◌-◌, Bool, cond, ◌&&◌, List, [], ◌∷◌, map, length, take, vec_items, Option, Vec, ◌==◌, nat_lt, slice_index}
-use Rattle.std.specs.Option.{option_map}
+use Rattle.std.specs.Prelude.{ℕ, ◌+◌, ◌-◌, Bool, cond, ◌&&◌, List, [], ◌∷◌, map, length, take, vec_items, Vec, ◌==◌, nat_lt, slice_index}
 use Rattle.std.specs.declared.alloc.Global.{Global}
-use Rattle.fields.specs.Cut.{before, after, pieces}
+use Rattle.fields.specs.Cut.{pieces}
 use Rattle.fields.specs.declared.parts.Field.{Field}
 
 -- a part of the script: its bytes and its place
@@ -34,14 +33,6 @@ placed n (w ∷ ws) = record { text = w; at = n } ∷ placed (n + (length w + 1)
 -- the parts of a text between its marks
 abbrev pub words : ℕ → Word → List Word
 words m w = placed w.at (pieces m w.text)
-
--- the first of them
-abbrev pub first_word : ℕ → Word → Word
-first_word m w = record { text = before m w.text; at = w.at }
-
--- what is left of the text after its first mark
-abbrev pub rest_word : ℕ → Word → Option Word
-rest_word m w = option_map (λ t. record { text = t; at = w.at + (length (before m w.text) + 1) }) (after m w.text)
 
 -- whether a line feed ends the script
 abbrev pub fed : List ℕ → Bool

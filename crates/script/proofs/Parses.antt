@@ -8,6 +8,7 @@ use Rattle.std.proofs.lemmas.Fmt.{digits_decimal}
 use Rattle.std.proofs.lemmas.List.{drop_all, drop_more}
 use Rattle.std.proofs.lemmas.Bool.{and_parts, eqb-true}
 use Rattle.std.proofs.lemmas.Bool.Decides.{nat_tests}
+use Rattle.std.proofs.lemmas.Option.{same_Some}
 use Rattle.fields.specs.Number.{number_in}
 use Rattle.fields.proofs.Written.{own, numbers_are_decimals}
 use Rattle.script.specs.Calls.{having}
@@ -81,19 +82,16 @@ in_row fs i (suc n) h =
 pub ok_same : {X : Type 0} (x y : X) → ◌≡◌ {A = Result X Fault} (Ok x) (Ok y) → x ≡ y
 ok_same x y e = cc
 
-some_same : {X : Type 0} (x y : X) → ◌≡◌ {A = Option X} (Some x) (Some y) → x ≡ y
-some_same x y e = cc
-
 -- one of two letters
 one_of_some : {X : Type 0} (a b : ℕ) (x y : X) (c : ℕ) (r : X) → one_of a x b y c ≡ Some r → ((c ≡ a) × (x ≡ r)) ⊎ ((c ≡ b) × (y ≡ r))
 one_of_some a b x y c r = by (eqb c a) refl
   where
     last : (t : Bool) → eqb c b ≡ t → cond t (Some y) None ≡ Some r → (c ≡ b) × (y ≡ r)
-    last true t e = (eqb-true c b t, some_same y r e)
+    last true t e = (eqb-true c b t, same_Some y r e)
     last false t e = absurd (grind arith)
 
     by : (t : Bool) → eqb c a ≡ t → cond t (Some x) (cond (eqb c b) (Some y) None) ≡ Some r → ((c ≡ a) × (x ≡ r)) ⊎ ((c ≡ b) × (y ≡ r))
-    by true t e = inl (eqb-true c a t, some_same x r e)
+    by true t e = inl (eqb-true c a t, same_Some x r e)
     by false t e = inr (last (eqb c b) refl e)
 
 -- a field that is read as what one of two letters stands for is its letter

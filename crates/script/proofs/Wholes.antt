@@ -5,6 +5,7 @@ use Rattle.std.proofs.lemmas.List.{drop_more, take_rest}
 use Rattle.std.proofs.lemmas.Simd.{map-map}
 use Rattle.std.proofs.lemmas.Bool.{cond-false, le-ltb}
 use Rattle.fields.specs.Cut.{pieces}
+use Rattle.fields.specs.Laws.{texts as bytes_of}
 use Rattle.fields.specs.Places.{Word, word_of, row_of, words, body, lines_of, rows_of}
 use Rattle.fields.specs.declared.parts.Field.{Field}
 use Rattle.fields.proofs.Within.{texts_placed}
@@ -37,10 +38,6 @@ lines_cut (l ∷ ls) = ap (λ r. then (setup_in l) (λ setup. Ok (setup, r))) (s
 rows_cut : (vs : List Row) → rows_read vs ≡ cut_read (map (λ v. texts (vec_items v)) vs)
 rows_cut [] = refl
 rows_cut (v ∷ vs) = ap (λ r. then (setup_of (texts (vec_items v))) (λ setup. Ok (setup, r))) (sym (map-map call_of (λ v. texts (vec_items v)) vs))
-
--- the bytes of a row of parts
-abbrev bytes_of : List Word → List (List ℕ)
-bytes_of ws = map (λ w. w.text) ws
 
 texts_rows : (vs : List Row) → map (λ v. texts (vec_items v)) vs ≡ map bytes_of (map row_of vs)
 texts_rows vs = (λ i. map (λ v. sym (map-map (λ w. w.text) word_of (vec_items v)) i) vs) ∙ sym (map-map bytes_of row_of vs)

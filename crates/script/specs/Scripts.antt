@@ -31,7 +31,7 @@ script_in s = cond (nat_lt 32768 (length s)) (Err Length) (lines_read (pieces 10
 -- a refusal is the script's own; want of memory may come to any script
 abbrev pub Explains : ReadError → Result Reading Fault → Type 0
 Explains (Refused e) r = r ≡ Err e
-Explains Memory r = Unit {0}
+Explains (Memory e) r = Unit {0}
 
 -- what the fields of one line ask for
 abbrev pub row_asked : Vec Field Global → Result Call Fault

@@ -10,7 +10,7 @@ use fields::Field;
 use terms::Call;
 
 impl Line<'_> {
-    // The call that the line asks for; the setup asks for none. No `TryFrom`: a line gives a call or a setup, and the method says which.
+    // The call that the line asks for; the setup asks for none. Two methods and no `TryFrom`s, which would say as much by the type at each use.
     pub fn call(&self) -> Result<Call, Fault>
         ensures { result ≡ call_asked self.now }
     {

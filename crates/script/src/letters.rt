@@ -7,7 +7,7 @@ use super::faults::Fault;
 use fields::number;
 use terms::Mode;
 
-const MOST_OBJECTS: u8 = 64;
+const MOST_SCRIPT_OBJECTS: u8 = 64;
 
 // What a script writes as one letter.
 pub(crate) trait Lettered: Sized {
@@ -51,7 +51,7 @@ impl Lettered for Mode {
     }
 }
 
-// The letter that is the whole field.
+// The byte that is the whole field, as a letter.
 pub(crate) fn letter(field: &[u8]) -> Option<char>
     ensures { result ≡ letter_in field.now }
 {
@@ -81,7 +81,7 @@ pub(crate) fn object_count(field: &[u8]) -> Result<u8, Fault>
     ensures { result ≡ objects_in field.now }
 {
     match u8::try_from(value(field)?) {
-        Ok(count) if count <= MOST_OBJECTS => Ok(count),
+        Ok(count) if count <= MOST_SCRIPT_OBJECTS => Ok(count),
         _ => Err(Fault::Form),
     }
 }

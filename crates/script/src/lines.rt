@@ -38,7 +38,7 @@ pub enum Line<'a> {
     },
 }
 
-// The letter of a line: its first field, if that is a letter.
+// The letter of a line: the byte that is its whole first field, as a letter.
 fn line_letter(fields: &[Field]) -> Option<char>
     ensures { result ≡ letter_in (text_of (field fields.now 0)) }
 {

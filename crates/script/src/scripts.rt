@@ -10,7 +10,7 @@ use fields::{Field, rows};
 use std::alloc::{AllocError, Global};
 use terms::Call;
 
-const LONGEST: usize = 32_768;
+const LONGEST_SCRIPT: usize = 32_768;
 
 // The setup of a script, and what each line after the first asks for.
 #[derive(Drop)]
@@ -20,11 +20,11 @@ pub struct Script {
 }
 
 // Why a script was not read: its first line or its length is at fault, or memory ran out.
-// An error of this crate's own, since callers match on its faults.
+// Not one generic error with the book's: each refusal's `From` would still be written out, and callers know the variants by their names here and there.
 #[derive(Clone, Copy, PartialEq, Eq, Debug)]
 pub enum ReadError {
     Refused(Fault),
-    Memory,
+    Memory(AllocError),
 }
 
 impl From<Fault> for ReadError {
@@ -36,10 +36,10 @@ impl From<Fault> for ReadError {
 }
 
 impl From<AllocError> for ReadError {
-    ghost from_gives = { λ _ error. error ≡ Memory };
+    ghost from_gives = { λ given error. error ≡ Memory given };
 
-    fn from(_: AllocError) -> ReadError {
-        ReadError::Memory
+    fn from(error: AllocError) -> ReadError {
+        ReadError::Memory(error)
     }
 }
 
@@ -57,7 +57,7 @@ fn read_calls(heap: Global, lines: &[Vec<Field>]) -> Result<Vec<Result<Call, Fau
 pub fn read_script(heap: Global, script: &[u8]) -> Result<Script, ReadError>
     ensures { MatchResult result (λ s. script_in script.now ≡ Ok (s.setup, s.readings.items)) (λ e. Explains e (script_in script.now)) }
 {
-    if script.len() > LONGEST {
+    if script.len() > LONGEST_SCRIPT {
         return Err(Fault::Length.into());
     }
     let lines = rows(heap, script)?;

@@ -45,6 +45,7 @@ mod tests {
     use std::test::Fail;
 
     // scripts: the number of each later line, 0 where it is read; or that of the script
+    // Faults stand here by their numbers, since those come from outside.
     const SCRIPTS: [(&[u8], &str); 16] = [
         (b"", "refused 20"),
         (b"\n", "refused 20"),
@@ -67,10 +68,10 @@ mod tests {
         (b"S,C,T,1,4,1\n\xff\xfe\nI,0,0", "read 20 0"),
     ];
 
-    // The numbers of the later lines, or that of the script.
+    // The numbers of the later lines, or that of the script: a refusal is what is looked at, and want of memory fails the test.
     fn numbers(heap: Global, script: &[u8]) -> Result<String, AllocError> {
         match read_script(heap, script) {
-            Err(ReadError::Memory) => Err(AllocError),
+            Err(ReadError::Memory(error)) => Err(error),
             Err(ReadError::Refused(fault)) => format!(in heap; "refused {}", u8::from(fault)),
             Ok(read) => {
                 let mut text = String::from_str(heap, "read")?;
@@ -104,9 +105,7 @@ mod tests {
     fn long_scripts_are_cut_at_once(rt: HostRuntime) -> Result<(), Fail> {
         let mut script = b"S,C,T,1,4,1".to_vec(rt.alloc())?;
         script.resize(32_768, b'\n')?;
-        let Ok(read) = read_script(rt.alloc(), script.as_slice()) else {
-            return Err(Fail::new("refused"));
-        };
+        let read = read_script(rt.alloc(), script.as_slice())?;
         assert_eq!(rt; read.readings.len(), 32_756);
         script.push(b'\n')?;
         let read = numbers(rt.alloc(), script.as_slice())?;

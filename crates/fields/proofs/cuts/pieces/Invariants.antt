@@ -1,12 +1,10 @@
-use Rattle.std.proofs.Common.{◌≡◌, ◌^◌, ◌<◌, ◌++◌, map, vec_items}
-use Rattle.std.specs.Option.{option_map}
-use Rattle.fields.specs.Places.{word_of, words}
-use Rattle.fields.proofs.Steps.{more_words, left_in, end_in}
+use Rattle.std.proofs.Common.{map, vec_items}
+use Rattle.fields.specs.Places.{word_of}
+use Rattle.fields.proofs.Steps.{Cutting}
 use Rattle.fields.proofs.cuts.pieces.Given as goal
 
-abbrev pub invariant-loop-rest : goal.invariant-loop-rest
-invariant-loop-rest l =
-    (map word_of (vec_items l.all) ++ more_words l.mark (option_map word_of l.rest) ≡ words l.mark (word_of l.text)) × (end_in (option_map word_of l.rest) < 2 ^ 64)
-
-abbrev pub decreases-loop-rest : goal.decreases-loop-rest
-decreases-loop-rest l = left_in (option_map word_of l.rest)
+abbrev pub invariant-loop-bytes : goal.invariant-loop-bytes
+invariant-loop-bytes l =
+    (goal.iterator-loop-bytes).can_next l.bytes-iterator
+    × (goal.iterator-loop-bytes).is_finite l.bytes-iterator
+    × Cutting (goal.iterator-loop-bytes).next_gives l.fn.mark (word_of l.text) (map word_of (vec_items l.all)) l.at l.bytes-iterator
