@@ -1,5 +1,5 @@
 -- Chains of reasons to refuse, from the facts that a call has found.
-use Rattle.std.proofs.Common.{◌≡◌, ℕ, ◌+◌, ◌<◌, ◌≤◌, Bool, true, false, not, ◌&&◌, eqb, ltb, leb, [], ◌∷◌, length, Some, None, Option, refl, ap, ◌∙◌, ap₂}
+use Rattle.std.proofs.Common.{◌≡◌, ℕ, ◌+◌, ◌<◌, ◌≤◌, Bool, true, false, not, ◌&&◌, eqb, leb, [], ◌∷◌, length, Some, None, Option, refl, ap, ◌∙◌, ap₂}
 use Rattle.std.specs.List.{list_any}
 use Rattle.std.proofs.lemmas.Bool.{le-ltb, lt-ltb, lt-leb}
 use Rattle.terms.specs.declared.modes.Mode.{Mode}
@@ -7,7 +7,7 @@ use Rattle.protocol.specs.declared.refusals.Refusal.{Refusal}
 use Rattle.protocol.specs.declared.refusals.Refusal.TheVariants.{NoSuchObject, AlreadyHeld, TooManyHeld, OpenElsewhere, WouldWaitForItself, NotOpen, TooManyVersions, HasOpen, Waits}
 use Rattle.protocol.specs.Ending.{commit_barred}
 use Rattle.protocol.specs.Holdings.{opened, held_by, holds, locked, waits, would_ring}
-use Rattle.protocol.specs.Image.{image_barred}
+use Rattle.protocol.specs.Image.{image_barred, image_crowded}
 use Rattle.protocol.specs.Lists.{first}
 use Rattle.protocol.specs.Lock.{lock_barred}
 use Rattle.protocol.specs.Model.{Model, executions_of, holding_count}
@@ -51,23 +51,21 @@ module _ (m : Model) (p : ℕ) where
   commit_free e f = commit_as false false e (ap not f)
 
 module _ (m : Model) (p o : ℕ) where
-  abbrev image_tests : Bool → Bool → Bool → Option Refusal
-  image_tests a b c = first ((a, NoSuchObject) ∷ (b, NotOpen) ∷ (c, TooManyVersions) ∷ [])
-
   abbrev mine : Bool
   mine = list_any (λ h. holds p o h && opened h.state) m.holdings
 
-  abbrev after : ℕ
-  after = length m.versions + length (executions_of p m)
-
-  image_as : (a b c : Bool) → leb (length m.values) o ≡ a → not mine ≡ b → ltb 256 after ≡ c → first (image_barred m p o) ≡ image_tests a b c
-  image_as a b c e f g = ap3 image_tests (leb (length m.values) o) (not mine) (ltb 256 after) a b c e f g
+  image_as : (b : Bool) → o < length m.values → not mine ≡ b → first (image_barred m p o) ≡ first ((false, NoSuchObject) ∷ (b, NotOpen) ∷ [])
+  image_as b here e = ap₂ (λ a b. first ((a, NoSuchObject) ∷ (b, NotOpen) ∷ [])) (lt-leb (length m.values) o here) e
 
   pub image_shut : o < length m.values → mine ≡ false → first (image_barred m p o) ≡ Some NotOpen
-  image_shut here e = image_as false true (ltb 256 after) (lt-leb (length m.values) o here) (ap not e) refl
+  image_shut here e = image_as true here (ap not e)
 
-  pub image_full : o < length m.values → mine ≡ true → 256 < after → first (image_barred m p o) ≡ Some TooManyVersions
-  image_full here e l = image_as false false true (lt-leb (length m.values) o here) (ap not e) (lt-ltb 256 after l)
+  pub image_free : o < length m.values → mine ≡ true → first (image_barred m p o) ≡ None
+  image_free here e = image_as false here (ap not e)
 
-  pub image_free : o < length m.values → mine ≡ true → after ≤ 256 → first (image_barred m p o) ≡ None
-  image_free here e l = image_as false false false (lt-leb (length m.values) o here) (ap not e) (le-ltb 256 after l)
+module _ (m : Model) (p : ℕ) where
+  pub image_full : 256 < length m.versions + length (executions_of p m) → first (image_crowded m p) ≡ Some TooManyVersions
+  image_full l = ap (λ b. first ((b, TooManyVersions) ∷ [])) (lt-ltb 256 (length m.versions + length (executions_of p m)) l)
+
+  pub image_fits : length m.versions + length (executions_of p m) ≤ 256 → first (image_crowded m p) ≡ None
+  image_fits l = ap (λ b. first ((b, TooManyVersions) ∷ [])) (le-ltb 256 (length m.versions + length (executions_of p m)) l)

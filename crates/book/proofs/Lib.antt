@@ -1,10 +1,13 @@
 pub mod Adding
+pub mod Gathered
+pub mod Kept
 pub mod Written
 pub mod Begun
 pub mod New
 pub mod Places
 pub mod Locking
 pub mod Paired
+pub mod Listed
 pub mod Locked
 pub mod Ended
 pub mod Ringless

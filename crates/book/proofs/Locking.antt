@@ -11,10 +11,10 @@ use Rattle.protocol.specs.declared.refusals.Refusal.TheVariants.{NoSuchPlace, Pl
 use Rattle.protocol.specs.Holdings.{locked, would_ring}
 use Rattle.protocol.specs.Begin.{is_known}
 use Rattle.protocol.specs.Ending.{commit_barred}
-use Rattle.protocol.specs.Image.{image_barred}
+use Rattle.protocol.specs.Image.{image_barred, image_crowded}
 use Rattle.protocol.specs.Past.{place_of}
 use Rattle.protocol.specs.Lists.{first, is_nil}
-use Rattle.protocol.specs.Lock.{no_live_job, lock_barred, lock_crowded}
+use Rattle.protocol.specs.Lock.{no_live_job, lock_barred, lock_crowded, lock_refusals}
 use Rattle.protocol.specs.Model.{Model, job_at, holding_count, executions_of}
 use Rattle.protocol.specs.Pairing.{kept_pairs}
 use Rattle.protocol.specs.Step.{answer, refusals}
@@ -53,36 +53,36 @@ pub no_place : (r : Rule) (m : Model) (c : Call) → 15 < place_of c → answer 
 unfolding answer refusals
 no_place r m (Begin p k a) l = ap (λ b. first ((b, NoSuchPlace) ∷ (is_some (job_at m p), PlaceTaken) ∷ (not (is_known r k), UnknownKind) ∷ [])) (lt-ltb 15 p l)
 no_place r m (Lock p o mode) l = ap (λ b. first ((b, NoSuchPlace) ∷ (not (is_some (job_at m p)), NoJob) ∷ (is_nil (executions_of p m), LostJob) ∷ lock_barred m p o mode ++ lock_crowded r m p o mode)) (lt-ltb 15 p l)
-no_place r m (Image p o) l = ap (λ b. first ((b, NoSuchPlace) ∷ (not (is_some (job_at m p)), NoJob) ∷ (is_nil (executions_of p m), LostJob) ∷ image_barred m p o)) (lt-ltb 15 p l)
+no_place r m (Image p o) l = ap (λ b. first ((b, NoSuchPlace) ∷ (not (is_some (job_at m p)), NoJob) ∷ (is_nil (executions_of p m), LostJob) ∷ image_barred m p o ++ image_crowded m p)) (lt-ltb 15 p l)
 no_place r m (Commit p) l = ap (λ b. first ((b, NoSuchPlace) ∷ (not (is_some (job_at m p)), NoJob) ∷ (is_nil (executions_of p m), LostJob) ∷ commit_barred m p)) (lt-ltb 15 p l)
 no_place r m (Abort p) l = ap (λ b. first ((b, NoSuchPlace) ∷ (not (is_some (job_at m p)), NoJob) ∷ [])) (lt-ltb 15 p l)
 
 module _ (r : Rule) (m : Model) (p o : ℕ) (mode : Mode) where
-  tests : answer r m (Lock p o mode) ≡ first (no_live_job m p ++ lock_barred m p o mode ++ lock_crowded r m p o mode)
+  pub lock_answer : answer r m (Lock p o mode) ≡ first (lock_refusals r m p o mode)
   unfolding answer refusals
-  tests = refl
+  lock_answer = refl
 
-  pub answer_absent : (e : Refusal) → first (no_live_job m p) ≡ Some e → answer r m (Lock p o mode) ≡ Some e
-  answer_absent e h = tests ∙ first_found (no_live_job m p ++ lock_barred m p o mode) (lock_crowded r m p o mode) e (first_found (no_live_job m p) (lock_barred m p o mode) e h)
+  pub refused_absent : (e : Refusal) → first (no_live_job m p) ≡ Some e → first (lock_refusals r m p o mode) ≡ Some e
+  refused_absent e h = first_found (no_live_job m p ++ lock_barred m p o mode) (lock_crowded r m p o mode) e (first_found (no_live_job m p) (lock_barred m p o mode) e h)
 
-  pub answer_barred : (e : Refusal) → first (no_live_job m p) ≡ None → first (lock_barred m p o mode) ≡ Some e → answer r m (Lock p o mode) ≡ Some e
-  answer_barred e a h = tests ∙ first_found (no_live_job m p ++ lock_barred m p o mode) (lock_crowded r m p o mode) e (first_append (no_live_job m p) (lock_barred m p o mode) a ∙ h)
+  pub refused_barred : (e : Refusal) → first (no_live_job m p) ≡ None → first (lock_barred m p o mode) ≡ Some e → first (lock_refusals r m p o mode) ≡ Some e
+  refused_barred e a h = first_found (no_live_job m p ++ lock_barred m p o mode) (lock_crowded r m p o mode) e (first_append (no_live_job m p) (lock_barred m p o mode) a ∙ h)
 
-  answer_crowded : first (no_live_job m p) ≡ None → first (lock_barred m p o mode) ≡ None → answer r m (Lock p o mode) ≡ first (lock_crowded r m p o mode)
-  answer_crowded a h = tests ∙ first_append (no_live_job m p ++ lock_barred m p o mode) (lock_crowded r m p o mode) (first_append (no_live_job m p) (lock_barred m p o mode) a ∙ h)
+  refused_crowded : first (no_live_job m p) ≡ None → first (lock_barred m p o mode) ≡ None → first (lock_refusals r m p o mode) ≡ first (lock_crowded r m p o mode)
+  refused_crowded a h = first_append (no_live_job m p ++ lock_barred m p o mode) (lock_crowded r m p o mode) (first_append (no_live_job m p) (lock_barred m p o mode) a ∙ h)
 
   module _ (a : first (no_live_job m p) ≡ None) (h : first (lock_barred m p o mode) ≡ None) where
-    pub answer_none : length (kept_pairs r m p o mode) ≡ 0 → answer r m (Lock p o mode) ≡ Some NoExecution
-    answer_none e = answer_crowded a h ∙ ap (λ b. first ((b, NoExecution) ∷ (ltb m.limit (length (kept_pairs r m p o mode)), TooManyExecutions) ∷ [])) (eq-eqb (length (kept_pairs r m p o mode)) 0 e)
+    pub refused_none : length (kept_pairs r m p o mode) ≡ 0 → first (lock_refusals r m p o mode) ≡ Some NoExecution
+    refused_none e = refused_crowded a h ∙ ap (λ b. first ((b, NoExecution) ∷ (ltb m.limit (length (kept_pairs r m p o mode)), TooManyExecutions) ∷ [])) (eq-eqb (length (kept_pairs r m p o mode)) 0 e)
 
-    pub answer_many : m.limit < length (kept_pairs r m p o mode) → answer r m (Lock p o mode) ≡ Some TooManyExecutions
-    answer_many l =
-        answer_crowded a h ∙ ap (λ b. first ((b, NoExecution) ∷ (ltb m.limit (length (kept_pairs r m p o mode)), TooManyExecutions) ∷ [])) (ne_eqb (length (kept_pairs r m p o mode)) 0 (λ e. omega arith))
+    pub refused_many : m.limit < length (kept_pairs r m p o mode) → first (lock_refusals r m p o mode) ≡ Some TooManyExecutions
+    refused_many l =
+        refused_crowded a h ∙ ap (λ b. first ((b, NoExecution) ∷ (ltb m.limit (length (kept_pairs r m p o mode)), TooManyExecutions) ∷ [])) (ne_eqb (length (kept_pairs r m p o mode)) 0 (λ e. omega arith))
         ∙ ap (λ b. first ((b, TooManyExecutions) ∷ [])) (lt-ltb m.limit (length (kept_pairs r m p o mode)) l)
 
-    pub answer_taken : (length (kept_pairs r m p o mode) ≡ 0 → ⊥) → length (kept_pairs r m p o mode) ≤ m.limit → answer r m (Lock p o mode) ≡ None
-    answer_taken ne l =
-        answer_crowded a h ∙ ap (λ b. first ((b, NoExecution) ∷ (ltb m.limit (length (kept_pairs r m p o mode)), TooManyExecutions) ∷ [])) (ne_eqb (length (kept_pairs r m p o mode)) 0 ne)
+    pub refused_never : (length (kept_pairs r m p o mode) ≡ 0 → ⊥) → length (kept_pairs r m p o mode) ≤ m.limit → first (lock_refusals r m p o mode) ≡ None
+    refused_never ne l =
+        refused_crowded a h ∙ ap (λ b. first ((b, NoExecution) ∷ (ltb m.limit (length (kept_pairs r m p o mode)), TooManyExecutions) ∷ [])) (ne_eqb (length (kept_pairs r m p o mode)) 0 ne)
         ∙ ap (λ b. first ((b, TooManyExecutions) ∷ [])) (le-ltb m.limit (length (kept_pairs r m p o mode)) l)
 
   pub record Taken : Type 0 where
@@ -94,7 +94,7 @@ module _ (r : Rule) (m : Model) (p o : ℕ) (mode : Mode) where
 
   pub taken : answer r m (Lock p o mode) ≡ None → Taken
   taken e =
-      let a : AllByRecursion (λ (t : Bool × Refusal). t.0 ≡ false) (no_live_job m p ++ lock_barred m p o mode ++ lock_crowded r m p o mode) = first_passed (no_live_job m p ++ lock_barred m p o mode ++ lock_crowded r m p o mode) (sym tests ∙ e) in
+      let a : AllByRecursion (λ (t : Bool × Refusal). t.0 ≡ false) (no_live_job m p ++ lock_barred m p o mode ++ lock_crowded r m p o mode) = first_passed (no_live_job m p ++ lock_barred m p o mode ++ lock_crowded r m p o mode) (sym lock_answer ∙ e) in
       let h = ltb-false 15 p a.0 in
       record {
         place = omega arith;

@@ -15,30 +15,35 @@ use Rattle.protocol.proofs.HistoryBook.{history_laws}
 use Rattle.protocol.proofs.Law.{law}
 use Rattle.book.specs.Ready.{NamesReady, Ready}
 use Rattle.book.specs.RunLaw.{counts}
-use Rattle.book.specs.Told.{events, answers_of}
+use Rattle.book.specs.Told.{returned, events, answers_of}
 use Rattle.book.specs.View.{Follows}
 use Rattle.book.proofs.Steps.{step_from}
 
 -- ---- the answers
-answer_from : (r : Rule) (m : Model) (c : Call) (result : Result (Unit {0}) Refusal) (after : Model) → Follows r m c result after → answer r m c ≡ result_err result
-answer_from r m c (Ok _) after f = f.0
-answer_from r m c (Err e) after f = f.0
+answer_from : (r : Rule) (m : Model) (c : Call) (result : Result (Unit {0}) Refusal) (after : Model) → Follows r m c result after → returned (answer r m c) ≡ result
+answer_from r m c (Ok _) after f = ap returned f.0
+answer_from r m c (Err e) after f = ap returned f.0
 
-answers_more : (r : Rule) (m : Model) (c : Call) (cs : List Call) → answers_of r m (c ∷ cs) ≡ answer r m c ∷ answers_of r (step r m c) cs
+-- the answer, told by what the caller gets back
+pub told_by : (a : Option Refusal) → result_err (returned a) ≡ a
+told_by None = refl
+told_by (Some x) = refl
+
+answers_more : (r : Rule) (m : Model) (c : Call) (cs : List Call) → answers_of r m (c ∷ cs) ≡ returned (answer r m c) ∷ answers_of r (step r m c) cs
 unfolding answers_of past
 answers_more r m c cs = refl
 
-pub answers_none : (r : Rule) (m : Model) (given : List (Option Refusal)) → given ++ answers_of r m [] ≡ given
+pub answers_none : (r : Rule) (m : Model) (given : List (Result (Unit {0}) Refusal)) → given ++ answers_of r m [] ≡ given
 unfolding answers_of past
 answers_none r m given = append-nil given
 
 -- one more call: its answer goes from those to come to those given
-pub answers_step : (r : Rule) (m after : Model) (c : Call) (result : Result (Unit {0}) Refusal) (x : Option Refusal) (cs : List Call) (given more : List (Option Refusal))
-    → Follows r m c result after → x ≡ result_err result → more ≡ given ++ x ∷ [] → more ++ answers_of r after cs ≡ given ++ answers_of r m (c ∷ cs)
-answers_step r m after c result x cs given more f e is =
-    ap (λ l. l ++ answers_of r after cs) is ∙ append_assoc given (x ∷ []) (answers_of r after cs)
+pub answers_step : (r : Rule) (m after : Model) (c : Call) (result : Result (Unit {0}) Refusal) (cs : List Call) (given more : List (Result (Unit {0}) Refusal))
+    → Follows r m c result after → more ≡ given ++ result ∷ [] → more ++ answers_of r after cs ≡ given ++ answers_of r m (c ∷ cs)
+answers_step r m after c result cs given more f is =
+    ap (λ l. l ++ answers_of r after cs) is ∙ append_assoc given (result ∷ []) (answers_of r after cs)
     ∙ ap (λ l. given ++ l)
-    (ap (λ a. a ∷ answers_of r after cs) (e ∙ sym (answer_from r m c result after f)) ∙ ap (λ n. answer r m c ∷ answers_of r n cs) (sym (step_from r m c result after f)) ∙ sym (answers_more r m c cs))
+    (ap (λ a. a ∷ answers_of r after cs) (sym (answer_from r m c result after f)) ∙ ap (λ n. returned (answer r m c) ∷ answers_of r n cs) (sym (step_from r m c result after f)) ∙ sym (answers_more r m c cs))
 
 answers_long : (r : Rule) (m : Model) (cs : List Call) → length (answers_of r m cs) ≡ length cs
 unfolding answers_of past
@@ -49,7 +54,9 @@ answers_long r m (c ∷ cs) = ap suc (answers_long r (step r m c) cs)
 events_past : (r : Rule) (m : Model) (cs : List Call) → events cs (answers_of r m cs) ≡ past r m cs
 unfolding events answers_of past
 events_past r m [] = refl
-events_past r m (c ∷ cs) = ap (λ es. record { call = c; answer = answer r m c } ∷ es) (events_past r (step r m c) cs)
+events_past r m (c ∷ cs) =
+    ap (λ a. record { call = c; answer = a } ∷ events cs (answers_of r (step r m c) cs)) (told_by (answer r m c))
+    ∙ ap (λ es. record { call = c; answer = answer r m c } ∷ es) (events_past r (step r m c) cs)
 
 -- ---- the law of a run
 -- what the ready answer says of the book it says of the history
@@ -59,7 +66,7 @@ told_ready r x l first cs None f = λ p. history_laws.same_running r x l first c
 told_ready r x l first cs (Some p) f =
     (history_laws.same_running r x l first cs p ∙ f.0, λ k w. f.1 k (subst (λ hs. WaitsFor hs p k) (history_laws.same_holdings r x l first cs) w))
 
-pub lawful_run : (r : Rule) (x l : ℕ) (first : List ℕ) (cs : List Call) (m : Model) (given : List (Option Refusal)) (ready : Option ℕ)
+pub lawful_run : (r : Rule) (x l : ℕ) (first : List ℕ) (cs : List Call) (m : Model) (given : List (Result (Unit {0}) Refusal)) (ready : Option ℕ)
     → m ≡ run r (new x l first) cs → given ≡ answers_of r (new x l first) cs → Ready m ready
     → (length given ≡ length cs) × Law r x first (events cs given) m.values (counts m) × NamesReady (history_of (events cs given)).runs (history_of (events cs given)).holdings ready
 lawful_run r x l first cs m given ready is tells f =

@@ -36,4 +36,4 @@ RunFollows r robustness limit first calls values done =
 -- why there was no run: the robustness or the limit was refused, or there was no memory for the answers
 abbrev pub NotRun : ℕ → ℕ → RunError → Type 0
 NotRun robustness limit (Refused x) = first_of (new_refusals robustness limit) ≡ Some x
-NotRun robustness limit OutOfMemory = first_of (new_refusals robustness limit) ≡ None
+NotRun robustness limit (OutOfMemory e) = first_of (new_refusals robustness limit) ≡ None

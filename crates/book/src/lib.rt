@@ -1,6 +1,7 @@
 // The book of jobs.
 #![tactic(auto)]
 
+mod gathering;
 mod making;
 mod meeting;
 mod offering;

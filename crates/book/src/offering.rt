@@ -1,11 +1,12 @@
 // What an object offers to a job that locks it.
-ghost use Rattle.std.specs.Prelude.{◌≡◌, ℕ, ◌≤◌, List, ◌∷◌, map, length, filter};
+ghost use Rattle.std.specs.Prelude.{◌≡◌, ◌≤◌, ◌∷◌, map, length, filter};
 ghost use Rattle.protocol.specs.Assumptions.{assume};
 ghost use Rattle.protocol.specs.Holdings.{makers as makers_of};
 ghost use Rattle.protocol.specs.Pairing.{offer, of_object};
 ghost use Rattle.holders.specs.Placed.{Placed};
 ghost use Rattle.tables.specs.Items.{items};
 
+use super::gathering::gather;
 use holders::{later_makers, makers};
 use protocol::{Assumption, Holding, Offer, PlaceSet, Version};
 use tables::Table;
@@ -52,13 +53,12 @@ impl Offering<'_> {
         ensures { items result ≡ (record { value = value; assumes = assume 0 (makers_of self.now.object self.now.holdings.now) }) ∷ map (offer self.now.holdings.now self.now.object) (filter (of_object self.now.object) versions.now) }
     {
         let mut all = Table::new(Offer::EMPTY);
-        all.push(self.stored(value)).unwrap();
-        for version in versions
+        let made = versions
             .iter()
             .filter(|version| version.object == self.object)
-        {
-            all.push(self.made(version)).unwrap();
-        }
+            .map(|version| self.made(version));
+        // `iter::once` was tried: where nothing names `Option`, the check cannot build its own part of the proof for such a chain
+        gather(&mut all, Some(self.stored(value)).into_iter().chain(made));
         all
     }
 }

@@ -9,17 +9,17 @@ use std::alloc::AllocError;
 #[derive(Drop)]
 pub struct Run {
     pub book: Book,
-    // of each call, in order: none where it was accepted
-    pub answers: Vec<Option<Refusal>>,
+    // to each call, in order
+    pub answers: Vec<Result<(), Refusal>>,
     // a running job that waits for none
     pub ready: Option<u8>,
 }
 
-// Why there was no run. An error of this crate's own, since callers match on its refusals.
+// Why there was no run. Not one generic error with the readers' of scripts: each refusal's `From` would still be written out, and callers know the variants by their names here and there.
 #[derive(Clone, Copy, PartialEq, Eq, Debug)]
 pub enum RunError {
     Refused(Refusal),
-    OutOfMemory,
+    OutOfMemory(AllocError),
 }
 
 impl From<Refusal> for RunError {
@@ -31,9 +31,9 @@ impl From<Refusal> for RunError {
 }
 
 impl From<AllocError> for RunError {
-    ghost from_gives = { λ _ error. error ≡ OutOfMemory };
+    ghost from_gives = { λ given error. error ≡ OutOfMemory given };
 
-    fn from(_error: AllocError) -> RunError {
-        RunError::OutOfMemory
+    fn from(error: AllocError) -> RunError {
+        RunError::OutOfMemory(error)
     }
 }

@@ -16,11 +16,9 @@ impl TryFrom<u64> for Place {
     ghost try_from_gives = { λ number result. MatchResult result (λ place. place.number ≡ number) (λ refusal. (refusal ≡ NoSuchPlace) × (15 < number)) };
 
     fn try_from(number: u64) -> Result<Place, Refusal> {
-        if number > 15 {
-            return Err(Refusal::NoSuchPlace);
+        match u8::try_from(number) {
+            Ok(number) if number < 16 => Ok(Place { number }),
+            _ => Err(Refusal::NoSuchPlace),
         }
-        Ok(Place {
-            number: number as u8,
-        })
     }
 }

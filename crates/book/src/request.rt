@@ -1,8 +1,10 @@
-// What a lock asks for.
-ghost use Rattle.std.specs.Prelude.{◌<◌};
+// What a lock asks for, and what is found for it.
+ghost use Rattle.std.specs.Prelude.{◌<◌, ◌≤◌, length};
+ghost use Rattle.tables.specs.Items.{items};
 
 use super::place::Place;
-use protocol::Job;
+use protocol::{Execution, Job};
+use tables::Table;
 use terms::Mode;
 
 // A lock that is asked for, with what is the same for all its pairs.
@@ -17,4 +19,13 @@ pub(crate) struct Request<'a, R> {
     pub held: usize,
     pub robustness: u8,
     ghost room: { held < 8 },
+}
+
+// The pairs found so far, within the limit.
+#[derive(Drop)]
+pub(crate) struct Found {
+    pub pairs: Table<Execution, 16>,
+    pub limit: usize,
+    ghost limited: { limit ≤ 16 },
+    ghost few: { length (items pairs) ≤ limit },
 }

@@ -1,5 +1,5 @@
 // A book from its making through a list of calls.
-ghost use Rattle.std.specs.Prelude.{◌≡◌, ℕ, List, MatchResult};
+ghost use Rattle.std.specs.Prelude.{◌≡◌, MatchResult};
 ghost use Rattle.book.specs.RunLaw.{RunLaw, RunFollows, NotRun};
 
 use super::outcome::{Run, RunError};

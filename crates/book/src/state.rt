@@ -1,7 +1,6 @@
-// The book, and what always holds of it. It keeps neither store nor rule: each call is given both, and its place, object and mode, as users write them.
-ghost use Rattle.std.specs.Prelude.{◌≡◌, ℕ, ◌≤◌, List, length};
-ghost use Rattle.protocol.specs.declared.assumptions.Execution.{Execution};
-ghost use Rattle.protocol.specs.declared.holdings.Holding.{Holding};
+// The book, and what always holds of it. It keeps neither store nor rule: each call is given what it needs of both, and its place, object and mode, as users write them.
+// Ghost fields and no model: clauses see a book together with the values of its store.
+ghost use Rattle.std.specs.Prelude.{◌≡◌, ◌≤◌, length};
 ghost use Rattle.protocol.specs.Ranks.{Ringless};
 ghost use Rattle.tables.specs.Items.{items};
 ghost use Rattle.tables.specs.Within.{Within, job_of_execution, job_of_holding};

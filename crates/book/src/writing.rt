@@ -40,10 +40,10 @@ impl Made<'_> {
     }
 
     // Writes the values of the job's versions, in the order of locking.
-    pub fn write<S: Store>(&self, store: &mut S, holdings: &[Holding])
+    pub(crate) fn write<S: Store>(&self, store: &mut S, holdings: &[Holding])
         ensures { S.Store.values store.new ≡ written self.now.place.number self.now.versions.now holdings.now (S.Store.values store.old) }
     {
-        // a loop over a filter was tried: in a generic function it gets no proof
+        // a `for` with an `if`: over a filter it was tried, and can have no invariant in a generic function; after `for_each` nothing is known of the store, and a function over what comes, as `Found::add_all`, would be one more for this loop alone
         for holding in holdings {
             if self.has_turned(holding) {
                 self.write_one(store, holding.object);

@@ -1,5 +1,5 @@
 // The program `replay` once more: a program is run on one stored script, and this is the long one.
-// Its three lines work on handles, of which no contract speaks, so they stand in each `main`.
+// Its three lines stand in each `main`: a function for both would be generic over a reader and a writer, and longer than they are.
 #![tactic(auto)]
 
 use replays::replayed;

@@ -2,4 +2,3 @@ pub mod Merging
 pub mod Writing
 pub mod Short
 pub mod Telling
-pub mod Few

@@ -1,7 +1,7 @@
 -- What a run tells is the output of a replay.
-use Rattle.std.proofs.Common.{◌≡◌, ℕ, true, false, List, ◌++◌, length, is_some, Some, None, Option, sym, ap, ◌∙◌, arith}
+use Rattle.std.proofs.Common.{◌≡◌, ℕ, true, false, List, ◌++◌, length, is_some, Some, None, Option, Result, sym, ap, ◌∙◌, arith}
 use Rattle.std.specs.Prelude.{filter}
-use Rattle.std.proofs.lemmas.List.{append_assoc, append-nil}
+use Rattle.std.proofs.lemmas.List.{append-nil}
 use Rattle.terms.specs.declared.calls.Call.{Call}
 use Rattle.terms.specs.Rule.{Rule}
 use Rattle.protocol.specs.declared.assumptions.Execution.{Execution}
@@ -12,20 +12,16 @@ use Rattle.protocol.specs.Model.{Model, new, names}
 use Rattle.protocol.specs.Step.{run, new_refusals}
 use Rattle.book.specs.Told.{answers_of}
 use Rattle.script.specs.Outputs.{job_bytes}
+use Rattle.script.specs.declared.setups.Setup.{Setup}
 use Rattle.replays.specs.Output.{LineRead, calls_in, line_answers, told, told_if, replay_of, place_bytes}
 use Rattle.replays.specs.Merged.{merged}
 use Rattle.replays.proofs.Merging.{merged_is}
 
--- four parts, each written behind those before it
-pub four_parts : {A : Type 0} (a b c d o1 o2 o3 o4 : List A) → o1 ≡ a → o2 ≡ o1 ++ b → o3 ≡ o2 ++ c → o4 ≡ o3 ++ d → o4 ≡ a ++ (b ++ (c ++ d))
-four_parts a b c d o1 o2 o3 o4 e1 e2 e3 e4 =
-    e4 ∙ ap (λ l. l ++ d) (e3 ∙ ap (λ l. l ++ c) (e2 ∙ ap (λ l. l ++ b) e1)) ∙ append_assoc (a ++ b) c d ∙ append_assoc a b (c ++ d)
-
-module _ (r : Rule) (x l : ℕ) (values : List ℕ) (rs : List LineRead) (cs : List Call) (calls_are : cs ≡ calls_in rs) where
-  pub replay_is : (answers : List (Option Refusal)) (m : Model) (out : List ℕ)
-      → first_of (new_refusals x l) ≡ None → m ≡ run r (new x l values) cs → answers ≡ answers_of r (new x l values) cs → out ≡ told (merged rs answers) m → out ≡ replay_of r values x l rs
+module _ (r : Rule) (setup : Setup) (values : List ℕ) (rs : List LineRead) (cs : List Call) (calls_are : cs ≡ calls_in rs) where
+  pub replay_is : (answers : List (Result (Unit {0}) Refusal)) (m : Model) (out : List ℕ)
+      → first_of (new_refusals setup.robustness setup.limit) ≡ None → m ≡ run r (new setup.robustness setup.limit values) cs → answers ≡ answers_of r (new setup.robustness setup.limit values) cs → out ≡ told (merged rs answers) m → out ≡ replay_of r values setup rs
   replay_is answers m out none model_is answers_are e =
-      let start = new x l values in
+      let start = new setup.robustness setup.limit values in
       let whole = told (line_answers r start rs) (run r start (calls_in rs)) in
       e ∙ ap (λ a. told a m) (ap (merged rs) (answers_are ∙ ap (answers_of r start) calls_are) ∙ merged_is r start rs)
       ∙ ap (told (line_answers r start rs)) (model_is ∙ ap (run r start) calls_are)

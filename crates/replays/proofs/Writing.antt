@@ -27,13 +27,6 @@ value_there values object value read l e is = go (ltb object (length values)) (l
     go true t e = cc
     go false t e = let z : ◌≡◌ {A = ℕ} 0 1 = cc in absurd (omega arith)
 
-pub not_there : (values : List ℕ) (object : ℕ) (read : Option ℕ) → object < length values → read ≡ value_at values object → read ≡ None → ⊥
-not_there values object read l e is = go (ltb object (length values)) (lt-ltb object (length values) l) e
-  where
-    go : (b : Bool) → b ≡ true → read ≡ cond b (Some (get_or values object 0)) None → ⊥
-    go true t e = let z : ◌≡◌ {A = ℕ} 0 1 = cc in omega arith
-    go false t e = let z : ◌≡◌ {A = ℕ} 0 1 = cc in omega arith
-
 -- the line of an object
 pub object_line_is : (k o v w : ℕ) → k ≡ o → v ≡ w → object_bytes k v ≡ object_bytes o w
 object_line_is k o v w e f = cc

@@ -1,5 +1,5 @@
 -- What a replay prints for the bytes of a script.
-use Rattle.std.specs.Prelude.{ℕ, ◌+◌, List, [], ◌∷◌, ◌++◌, length, replicate, Some, None, Ok, Err, Option, Result, filter, filter_map, ◌≡◌, String, string_bytes}
+use Rattle.std.specs.Prelude.{ℕ, ◌+◌, List, [], ◌∷◌, ◌++◌, length, replicate, Some, None, Ok, Err, Option, Result, filter, filter_map, ◌≡◌, String, string_bytes, IfOk}
 use Rattle.std.specs.Result.{result_ok}
 use Rattle.terms.specs.declared.calls.Call.{Call}
 use Rattle.terms.specs.Rule.{Rule}
@@ -18,6 +18,7 @@ use Rattle.script.specs.Outputs.{answer_bytes, object_bytes, job_bytes}
 use Rattle.script.specs.Scripts.{Reading, script_in}
 use Rattle.script.specs.declared.faults.Fault.{Fault}
 use Rattle.script.specs.declared.setups.RuleName.{RuleName}
+use Rattle.script.specs.declared.setups.Setup.{Setup}
 use Rattle.script.specs.declared.setups.RuleName.TheVariants.{Charge, Loan}
 
 -- what a line of a script was read as
@@ -39,6 +40,10 @@ line_answers r m (Err f ∷ rs) = number_of f ∷ line_answers r m rs
 abbrev pub Appended : {Z : Type 0} → String Z → String Z → List ℕ → Type 0
 Appended before after bytes = string_bytes after ≡ string_bytes before ++ bytes
 
+-- a text that is these bytes, unless memory ran out
+abbrev pub Writes : {Z E : Type 0} → Result (String Z) E → List ℕ → Type 0
+Writes r bytes = IfOk r (λ out. string_bytes out ≡ bytes)
+
 -- a line of output for each of the items, numbered from n on
 unfoldable pub lines_from : {A : Type 0} → (ℕ → A → List ℕ) → ℕ → List A → List ℕ
 lines_from line n [] = []
@@ -58,10 +63,11 @@ abbrev pub told_if : Option Refusal → List ℕ → List ℕ
 told_if None others = others
 told_if (Some x) others = answer_bytes 1 (refusal_number x)
 
--- a replay of lines by this job rule, over a store with these values
-abbrev pub replay_of : Rule → List ℕ → ℕ → ℕ → List LineRead → List ℕ
-replay_of r values robustness limit lines =
-    told_if (first (new_refusals robustness limit)) (told (line_answers r (new robustness limit values) lines) (run r (new robustness limit values) (calls_in lines)))
+-- a replay of lines by this job rule, over a store with these values, on a book that is made as the setup says
+abbrev pub replay_of : Rule → List ℕ → Setup → List LineRead → List ℕ
+replay_of r values setup lines =
+    let start = new setup.robustness setup.limit values in
+    told_if (first (new_refusals setup.robustness setup.limit)) (told (line_answers r start lines) (run r start (calls_in lines)))
 
 -- the job rule of that name
 abbrev pub rule_of : RuleName → Rule
@@ -71,7 +77,7 @@ rule_of Loan = loan_rule
 -- a script that is read is replayed over so many objects, all at 0 (either store has these values); one that is not gives its fault alone
 abbrev pub output_of : Result Reading Fault → List ℕ
 output_of (Err f) = answer_bytes 1 (number_of f)
-output_of (Ok (setup, lines)) = replay_of (rule_of setup.rule) (replicate setup.objects 0) setup.robustness setup.limit lines
+output_of (Ok (setup, lines)) = replay_of (rule_of setup.rule) (replicate setup.objects 0) setup lines
 
 -- the output for the bytes of a script
 abbrev pub output : List ℕ → List ℕ

@@ -1,5 +1,6 @@
 // What a script that was read asks for: its calls, and the answer to each of its lines.
-ghost use Rattle.std.specs.Prelude.{◌≡◌, ◌≤◌, ◌++◌, length, string_bytes, IfOk, OnOk};
+ghost use Rattle.std.specs.Prelude.{◌≡◌, ◌≤◌, length, IfOk, OnOk};
+ghost use Rattle.std.specs.Result.{result_err};
 ghost use Rattle.protocol.specs.Cases.{answer_number};
 ghost use Rattle.script.specs.Outputs.{answer_bytes};
 ghost use Rattle.replays.specs.Output.{Appended, calls_in, lines_from};
@@ -16,15 +17,15 @@ use terms::Call;
 pub(crate) struct Asked<'a> {
     pub setup: Setup,
     pub readings: &'a [Result<Call, Fault>],
-    // each of its lines has a byte at least, and a script has at most 32,768
+    // a line feed stands before each of these lines, and a script has at most 32,768 bytes
     ghost short: { length readings.now ≤ 32768 },
 }
 
 // The number that answers a call.
-fn answer_number(answer: Option<Refusal>) -> u8
-    ensures { result ≡ answer_number answer }
+fn answer_number(answer: Result<(), Refusal>) -> u8
+    ensures { result ≡ answer_number (result_err answer) }
 {
-    answer.map_or(0, u8::from)
+    answer.err().map_or(0, u8::from)
 }
 
 impl Asked<'_> {
@@ -42,14 +43,15 @@ impl Asked<'_> {
     pub(crate) fn write_answers(
         &self,
         out: &mut String,
-        answers: &[Option<Refusal>],
+        answers: &[Result<(), Refusal>],
     ) -> Result<(), AllocError>
         ensures { OnOk result (Appended out.old out.new (lines_from answer_bytes 2 (merged self.now.readings.now answers.now))) }
     {
         let mut left = answers.iter();
         for (i, reading) in self.readings.iter().enumerate() {
             let answer = match reading {
-                Ok(_) => answer_number(left.next().copied().flatten()),
+                // there is an answer for each call
+                Ok(_) => answer_number(left.next().copied().unwrap_or(Ok(()))),
                 Err(fault) => u8::from(*fault),
             };
             let number = i as u32 + 2;

@@ -1,5 +1,5 @@
 // The lines of the output.
-ghost use Rattle.std.specs.Prelude.{◌≡◌, [], ◌++◌, string_bytes, OnOk};
+ghost use Rattle.std.specs.Prelude.{[], OnOk};
 ghost use Rattle.book.specs.View.{view};
 ghost use Rattle.script.specs.Outputs.{line_bytes, object_bytes};
 ghost use Rattle.replays.specs.Output.{Appended, lines_from, place_bytes};
@@ -22,15 +22,9 @@ pub(crate) fn write_objects<S: Store>(out: &mut String, store: &S) -> Result<(),
     ensures { OnOk result (Appended out.old out.new (lines_from object_bytes 0 (S.Store.values store.now))) }
 {
     for object in 0..store.len() {
-        if let Some(value) = store.read(object) {
-            write_line(
-                out,
-                OutputLine::Object {
-                    object: object as u16,
-                    value,
-                },
-            )?;
-        }
+        let value = store.read(object).unwrap();
+        let object = object as u16;
+        write_line(out, OutputLine::Object { object, value })?;
     }
     Ok(())
 }

@@ -1,8 +1,8 @@
 // A whole replay.
-ghost use Rattle.std.specs.Prelude.{◌≡◌, replicate, IfOk, string_bytes};
+ghost use Rattle.std.specs.Prelude.{replicate};
 ghost use Rattle.script.specs.Outputs.{answer_bytes};
 ghost use Rattle.book.specs.View.{view};
-ghost use Rattle.replays.specs.Output.{told, replay_of, rule_of, output};
+ghost use Rattle.replays.specs.Output.{Writes, told, replay_of, rule_of, output};
 ghost use Rattle.replays.specs.Merged.{merged};
 
 use super::asked::Asked;
@@ -14,9 +14,9 @@ use std::alloc::{AllocError, Global};
 use stores::{ImageStore, TableStore};
 use terms::{JobRule, Store};
 
-// The answer to the first line.
+// The answer to the first line: all of the output where the script or its book is refused, which is no error of a replay.
 fn first_answer(heap: Global, answer: u8) -> Result<String, AllocError>
-    ensures { IfOk result (λ out. string_bytes out ≡ answer_bytes 1 answer) }
+    ensures { Writes result (answer_bytes 1 answer) }
 {
     OutputLine::Answer { number: 1, answer }.text(heap)
 }
@@ -24,7 +24,7 @@ fn first_answer(heap: Global, answer: u8) -> Result<String, AllocError>
 impl Asked<'_> {
     // What a run tells.
     fn tell<S: Store>(&self, heap: Global, store: &S, done: &Run) -> Result<String, AllocError>
-        ensures { IfOk result (λ out. string_bytes out ≡ told (merged self.now.readings.now done.now.answers.items) (view (S.Store.values store.now) done.now.book)) }
+        ensures { Writes result (told (merged self.now.readings.now done.now.answers.items) (view (S.Store.values store.now) done.now.book)) }
     {
         let mut out = first_answer(heap, 0)?;
         self.write_answers(&mut out, done.answers.as_slice())?;
@@ -40,7 +40,7 @@ impl Asked<'_> {
         store: &mut S,
         rule: &R,
     ) -> Result<String, AllocError>
-        ensures { IfOk result (λ out. string_bytes out ≡ replay_of (R.JobRule.means rule.now) (S.Store.values store.old) self.now.setup.robustness self.now.setup.limit self.now.readings.now) }
+        ensures { Writes result (replay_of (R.JobRule.means rule.now) (S.Store.values store.old) self.now.setup self.now.readings.now) }
     {
         let calls = self.calls(heap)?;
         let Setup {
@@ -50,14 +50,14 @@ impl Asked<'_> {
         } = self.setup;
         match run(heap, robustness, limit, store, rule, calls.as_slice()) {
             Ok(done) => self.tell(heap, store, &done),
-            Err(RunError::Refused(refusal)) => first_answer(heap, u8::from(refusal)),
-            Err(RunError::OutOfMemory) => Err(AllocError),
+            Err(RunError::Refused(refusal)) => first_answer(heap, refusal.into()),
+            Err(RunError::OutOfMemory(error)) => Err(error),
         }
     }
 
     // The replay over the store that the setup names, with all of its objects at 0.
     fn by<R: JobRule>(&self, heap: Global, rule: &R) -> Result<String, AllocError>
-        ensures { IfOk result (λ out. string_bytes out ≡ replay_of (R.JobRule.means rule.now) (replicate self.now.setup.objects 0) self.now.setup.robustness self.now.setup.limit self.now.readings.now) }
+        ensures { Writes result (replay_of (R.JobRule.means rule.now) (replicate self.now.setup.objects 0) self.now.setup self.now.readings.now) }
     {
         let objects = u32::from(self.setup.objects);
         match self.setup.store {
@@ -68,7 +68,7 @@ impl Asked<'_> {
 
     // The replay by the job rule that the setup names.
     fn replayed(&self, heap: Global) -> Result<String, AllocError>
-        ensures { IfOk result (λ out. string_bytes out ≡ replay_of (rule_of self.now.setup.rule) (replicate self.now.setup.objects 0) self.now.setup.robustness self.now.setup.limit self.now.readings.now) }
+        ensures { Writes result (replay_of (rule_of self.now.setup.rule) (replicate self.now.setup.objects 0) self.now.setup self.now.readings.now) }
     {
         match self.setup.rule {
             RuleName::Charge => self.by(heap, &ChargeRule),
@@ -79,7 +79,7 @@ impl Asked<'_> {
 
 // The output for a script.
 pub fn replayed(heap: Global, script: &[u8]) -> Result<String, AllocError>
-    ensures { IfOk result (λ out. string_bytes out ≡ output script.now) }
+    ensures { Writes result (output script.now) }
 {
     match read_script(heap, script) {
         Ok(read) => {
@@ -90,6 +90,6 @@ pub fn replayed(heap: Global, script: &[u8]) -> Result<String, AllocError>
             asked.replayed(heap)
         }
         Err(ReadError::Refused(fault)) => first_answer(heap, u8::from(fault)),
-        Err(ReadError::Memory) => Err(AllocError),
+        Err(ReadError::Memory(error)) => Err(error),
     }
 }

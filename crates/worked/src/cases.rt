@@ -1,4 +1,4 @@
-// The worked cases. Each is a function, since a constant table may not call the short words.
+// The worked cases. Each is a function, since some are played more than once, and a constant table may not call the short words.
 use super::player::play;
 use super::steps::{Step, abort, begin, begin_as, commit, image, read, write};
 use std::io;

@@ -6,7 +6,7 @@ use std::io;
 // 1 comes before 2.
 fn no_book(rt: &HostRuntime) -> io::Result<()> {
     play(rt, "new", 121, 16, &[])?;
-    play(rt, "new", 18446744073709551615, 0, &[])?;
+    play(rt, "new", u64::MAX, 0, &[])?;
     play(rt, "new", 121, 17, &[])?;
     play(rt, "new", 120, 0, &[])?;
     play(rt, "new", 0, 17, &[])
@@ -23,7 +23,7 @@ fn no_job(rt: &HostRuntime) -> io::Result<()> {
             begin(15),
             begin(16),
             begin_as(16, 0, 1),
-            begin(18446744073709551615),
+            begin(u64::MAX),
             begin(15),
             begin_as(15, 4, 1),
             begin_as(14, 0, 1),

@@ -9,7 +9,7 @@ pub(crate) enum Step {
     Count(u64),
     // what does the store hold for the object?
     Show(u64),
-    // five jobs from the place on lock and image the object in turn, and the last, with 16 executions, the next seven objects too
+    // five jobs from the place on lock and image the object in turn, and the last, with 16 executions, the next seven objects too; of 8 bits, so that the sums fit
     Crowd { place: u8, object: u8 },
 }
 

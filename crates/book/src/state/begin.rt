@@ -1,8 +1,7 @@
 // A new book, and a job that begins.
-ghost use Rattle.std.specs.Prelude.{◌≡◌, ℕ, ◌<◌, ◌≤◌, List, [], Some, None, MatchResult};
+ghost use Rattle.std.specs.Prelude.{◌≡◌, ℕ, List, [], None};
 ghost use Rattle.terms.specs.declared.calls.Call.TheVariants.{Begin};
 ghost use Rattle.protocol.specs.Begin.{begin_refusals};
-ghost use Rattle.protocol.specs.Lists.{first};
 ghost use Rattle.protocol.specs.Model.{new, job_at};
 ghost use Rattle.protocol.specs.Step.{new_refusals};
 ghost use Rattle.book.specs.Tests.{Tested};
@@ -17,7 +16,7 @@ use terms::JobRule;
 impl Book {
     // A book without jobs. The robustness says how many jobs an execution may ever have taken to abort, the limit how many executions a job may have.
     pub fn new(robustness: u64, limit: u64) -> Result<Book, Refusal>
-        ensures { MatchResult result (λ book. (first (new_refusals robustness limit) ≡ None) × ((values : List ℕ) → view values book ≡ new robustness limit values)) (λ e. first (new_refusals robustness limit) ≡ Some e) }
+        ensures { Tested (new_refusals robustness limit) (λ book. (values : List ℕ) → view values book ≡ new robustness limit values) result }
     {
         if robustness > 120 {
             return Err(Refusal::RobustnessTooLarge);

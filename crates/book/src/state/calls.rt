@@ -1,5 +1,5 @@
 // Any call, and a list of calls.
-ghost use Rattle.std.specs.Prelude.{◌≡◌, ℕ, ◌+◌, ◌≤◌, List, ◌++◌, length, vec_len, vec_capacity};
+ghost use Rattle.std.specs.Prelude.{◌≡◌, ◌+◌, ◌≤◌, ◌++◌, length, vec_len, vec_capacity};
 ghost use Rattle.protocol.specs.Step.{run as model_run};
 ghost use Rattle.book.specs.Told.{answers_of};
 ghost use Rattle.book.specs.View.{view, Follows};
@@ -40,14 +40,14 @@ impl Book {
         store: &mut S,
         rule: &R,
         calls: &[Call],
-        answers: &mut Vec<Option<Refusal>>,
+        answers: &mut Vec<Result<(), Refusal>>,
     )
         requires { vec_len answers.old + length calls.now ≤ vec_capacity answers.old }
         ensures left { view (S.Store.values store.new) self.new ≡ model_run (R.JobRule.means rule.now) (view (S.Store.values store.old) self.old) calls.now }
         ensures told { answers.new.items ≡ answers.old.items ++ answers_of (R.JobRule.means rule.now) (view (S.Store.values store.old) self.old) calls.now }
     {
         for call in calls {
-            let answer = self.call(store, rule, *call).err();
+            let answer = self.call(store, rule, *call);
             answers.push_reserved(answer);
         }
     }

@@ -1,10 +1,10 @@
 // A job ends.
-ghost use Rattle.std.specs.Prelude.{◌≡◌, ℕ, List, [], ◌++◌, Some, None, MatchResult};
+ghost use Rattle.std.specs.Prelude.{◌≡◌, ℕ, List, []};
+ghost use Rattle.std.specs.Result.{result_err};
 ghost use Rattle.terms.specs.declared.calls.Call.TheVariants.{Abort, Commit};
 ghost use Rattle.terms.specs.Rule.{Rule};
-ghost use Rattle.protocol.specs.Ending.{commit_barred};
+ghost use Rattle.protocol.specs.Ending.{commit_refusals};
 ghost use Rattle.protocol.specs.Lists.{first};
-ghost use Rattle.protocol.specs.Lock.{no_live_job};
 ghost use Rattle.protocol.specs.Settling.{settle};
 ghost use Rattle.book.specs.View.{view, Follows};
 
@@ -38,7 +38,7 @@ impl Book {
 
     // Whether a job may commit.
     fn may_commit(&self, place: Place) -> Result<(), Refusal>
-        ensures { MatchResult result (λ _. (first (no_live_job (view [] self.now) place.number) ≡ None) × (first (commit_barred (view [] self.now) place.number) ≡ None)) (λ e. first (no_live_job (view [] self.now) place.number ++ commit_barred (view [] self.now) place.number) ≡ Some e) }
+        ensures { result_err result ≡ first (commit_refusals (view [] self.now) place.number) }
     {
         self.live_job(place)?;
         let holdings = self.holdings.in_use();

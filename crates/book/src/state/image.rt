@@ -1,10 +1,9 @@
 // A job's open holding is turned, and each of its executions makes a version.
-ghost use Rattle.std.specs.Prelude.{◌≡◌, ℕ, List, [], ◌++◌, Some, None, MatchResult};
+ghost use Rattle.std.specs.Prelude.{[], ◌++◌};
 ghost use Rattle.terms.specs.declared.calls.Call.TheVariants.{Image};
 ghost use Rattle.protocol.specs.Image.{image_barred};
-ghost use Rattle.protocol.specs.Lists.{first};
 ghost use Rattle.protocol.specs.Lock.{no_live_job};
-ghost use Rattle.protocol.specs.Model.{job_at};
+ghost use Rattle.book.specs.Tests.{FindsJob};
 ghost use Rattle.book.specs.View.{view, Follows};
 
 use super::super::making::Making;
@@ -15,16 +14,13 @@ use protocol::{Job, Refusal};
 use terms::{JobRule, Store};
 
 impl Book {
-    // The job, where it may image the object.
+    // The job, where it may image the object if there is room for what it makes.
     fn may_image<S: Store>(&self, store: &S, place: Place, object: u64) -> Result<Job, Refusal>
-        ensures { MatchResult result (λ j. (first (no_live_job (view (S.Store.values store.now) self.now) place.number) ≡ None) × (first (image_barred (view (S.Store.values store.now) self.now) place.number object) ≡ None) × (job_at (view [] self.now) place.number ≡ Some j)) (λ e. first (no_live_job (view (S.Store.values store.now) self.now) place.number ++ image_barred (view (S.Store.values store.now) self.now) place.number object) ≡ Some e) }
+        ensures { FindsJob (no_live_job (view (S.Store.values store.now) self.now) place.number ++ image_barred (view (S.Store.values store.now) self.now) place.number object) (view [] self.now) place.number result }
     {
         let job = self.live_job(place)?;
         store.read(object).ok_or(Refusal::NoSuchObject)?;
         find_open(self.holdings.in_use(), place.number, object)?;
-        if self.execution_count(u64::from(place.number)) > 256 - self.versions.len() {
-            return Err(Refusal::TooManyVersions);
-        }
         Ok(job)
     }
 
@@ -49,7 +45,9 @@ impl Book {
             met,
         };
         let made = making.versions(self.executions.in_use());
-        self.versions.extend(made.in_use()).unwrap();
+        self.versions
+            .extend(made.in_use())
+            .or(Err(Refusal::TooManyVersions))?;
         self.holdings.turn(here.number, object);
         Ok(())
     }

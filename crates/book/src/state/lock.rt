@@ -1,20 +1,17 @@
 // A job locks an object.
-ghost use Rattle.std.specs.Prelude.{◌≡◌, ℕ, ◌<◌, ◌≤◌, List, [], Some, None, MatchResult, slice_index};
+ghost use Rattle.std.specs.Prelude.{◌≡◌, ◌<◌, [], slice_index};
 ghost use Rattle.terms.specs.declared.calls.Call.TheVariants.{Lock};
 ghost use Rattle.protocol.specs.Holdings.{locked};
-ghost use Rattle.protocol.specs.Lists.{first};
-ghost use Rattle.protocol.specs.Lock.{no_job, no_live_job, lock_barred};
-ghost use Rattle.protocol.specs.Model.{job_at, holding_count};
+ghost use Rattle.protocol.specs.Lock.{no_job, no_live_job, lock_barred, lock_refusals};
+ghost use Rattle.protocol.specs.Model.{holding_count};
 ghost use Rattle.protocol.specs.Pairing.{kept_pairs};
-ghost use Rattle.protocol.specs.Step.{answer};
 ghost use Rattle.tables.specs.Items.{items};
-ghost use Rattle.book.specs.Tests.{Tested};
+ghost use Rattle.book.specs.Tests.{Tested, FindsJob};
 ghost use Rattle.book.specs.View.{view, Follows};
 
 use super::super::offering::Offering;
-use super::super::pairing::Found;
 use super::super::place::Place;
-use super::super::request::Request;
+use super::super::request::{Found, Request};
 use super::Book;
 use holders::{count_held, holds_object, is_open, would_ring};
 use protocol::{Execution, Holding, HoldingState, Job, Refusal};
@@ -45,14 +42,14 @@ impl Wanted {
 impl Book {
     // The job that runs at a place.
     pub(super) fn running(&self, place: Place) -> Result<Job, Refusal>
-        ensures { Tested (no_job (view [] self.now) place.number) (λ j. job_at (view [] self.now) place.number ≡ Some j) result }
+        ensures { FindsJob (no_job (view [] self.now) place.number) (view [] self.now) place.number result }
     {
         self.job(u64::from(place.number)).ok_or(Refusal::NoJob)
     }
 
     // The job that runs at a place, and is not lost.
     pub(super) fn live_job(&self, place: Place) -> Result<Job, Refusal>
-        ensures { Tested (no_live_job (view [] self.now) place.number) (λ j. job_at (view [] self.now) place.number ≡ Some j) result }
+        ensures { FindsJob (no_live_job (view [] self.now) place.number) (view [] self.now) place.number result }
     {
         let job = self.running(place)?;
         if self.execution_count(u64::from(place.number)) == 0 {
@@ -91,7 +88,7 @@ impl Book {
         rule: &R,
         wanted: Wanted,
     ) -> Result<Table<Execution, 16>, Refusal>
-        ensures { MatchResult result (λ t. (answer (R.JobRule.means rule.now) (view (S.Store.values store.now) self.now) (Lock wanted.place.number wanted.object wanted.mode) ≡ None) × (items t ≡ kept_pairs (R.JobRule.means rule.now) (view (S.Store.values store.now) self.now) wanted.place.number wanted.object wanted.mode)) (λ e. answer (R.JobRule.means rule.now) (view (S.Store.values store.now) self.now) (Lock wanted.place.number wanted.object wanted.mode) ≡ Some e) }
+        ensures { Tested (lock_refusals (R.JobRule.means rule.now) (view (S.Store.values store.now) self.now) wanted.place.number wanted.object wanted.mode) (λ t. items t ≡ kept_pairs (R.JobRule.means rule.now) (view (S.Store.values store.now) self.now) wanted.place.number wanted.object wanted.mode) result }
     {
         let Wanted {
             place,
@@ -112,7 +109,10 @@ impl Book {
             held,
             robustness: self.robustness,
         };
-        let mut found = Found::new(self.limit);
+        let mut found = Found {
+            pairs: Table::new(Execution::EMPTY),
+            limit: self.limit,
+        };
         request.pair_up(&mut found, self.executions.in_use(), offers.in_use())?;
         if found.pairs.in_use().is_empty() {
             return Err(Refusal::NoExecution);

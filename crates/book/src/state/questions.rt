@@ -1,5 +1,5 @@
 // Questions change nothing, and what is not there answers none.
-ghost use Rattle.std.specs.Prelude.{◌≡◌, ℕ, List, [], map, length, filter};
+ghost use Rattle.std.specs.Prelude.{◌≡◌, [], map, length, filter};
 ghost use Rattle.protocol.specs.Holdings.{held_by};
 ghost use Rattle.protocol.specs.Model.{job_at, holding_count, executions_of};
 ghost use Rattle.protocol.specs.Pairing.{of_object};
@@ -10,6 +10,7 @@ ghost use Rattle.book.specs.View.{view};
 use super::super::searching::{count_of, nth_of};
 use super::Book;
 use protocol::{Assumption, Execution, Holding, Job, Version};
+use std::iter;
 use terms::Store;
 
 // A value that an object has or would have. The stored value has no maker.
@@ -31,17 +32,6 @@ impl From<&Version> for ObjectVersion {
             assumes: version.assumes,
         }
     }
-}
-
-// The n-th of the versions by running jobs.
-fn nth_made(versions: &[Version], object: u64, n: u64) -> Option<ObjectVersion>
-    ensures { result ≡ slice_get (map made_version (filter (of_object object) versions.now)) n }
-{
-    versions
-        .iter()
-        .filter(|version| version.object == object)
-        .map(ObjectVersion::from)
-        .nth(n as usize)
 }
 
 impl Book {
@@ -84,14 +74,17 @@ impl Book {
     pub fn version<S: Store>(&self, store: &S, object: u64, n: u64) -> Option<ObjectVersion>
         ensures { result ≡ slice_get (object_versions (view (S.Store.values store.now) self.now) object) n }
     {
-        let value = store.read(object)?;
-        match n.checked_sub(1) {
-            Some(n) => nth_made(self.versions.in_use(), object, n),
-            None => Some(ObjectVersion {
-                maker: None,
-                value,
-                assumes: Assumption::EMPTY,
-            }),
-        }
+        let stored = ObjectVersion {
+            maker: None,
+            value: store.read(object)?,
+            assumes: Assumption::EMPTY,
+        };
+        let made = self
+            .versions
+            .in_use()
+            .iter()
+            .filter(|version| version.object == object)
+            .map(ObjectVersion::from);
+        iter::once(stored).chain(made).nth(n as usize)
     }
 }

@@ -14,7 +14,7 @@ impl Book {
         self.job(place.into()).is_some() && waits_of(self.holdings.in_use(), place).is_empty()
     }
 
-    // A running job that waits for none; none where no job runs.
+    // A running job that waits for none; none where no job runs. The contract leaves open which; this answers the one at the lowest place.
     pub fn ready(&self) -> Option<u8>
         ensures { Ready (view [] self.now) result }
     {

@@ -1,9 +1,8 @@
 use Rattle.std.proofs.Common.{◌<◌, ◌≤◌, ◌++◌, length, get_or, string_bytes, ap, ◌∙◌, arith}
 use Rattle.script.specs.Outputs.{object_bytes}
 use Rattle.replays.specs.Output.{lines_from}
-use Rattle.replays.proofs.Writing.{line_more, lines_done, value_there, not_there, object_line_is}
+use Rattle.replays.proofs.Writing.{line_more, lines_done, value_there, object_line_is}
 use Rattle.replays.proofs.lines.write_objects.Goals as goal
-use Rattle.replays.proofs.lines.write_objects.Goals.{in-Some+in_ok-write_line, in_default}
 
 pub loop-object-preserved : goal.loop-object-preserved
 loop-object-preserved g c =
@@ -11,18 +10,11 @@ loop-object-preserved g c =
     let o = c.loop-object.object in
     let now = string_bytes c.loop-object.out in
     let whole = string_bytes c.args.out.now ++ lines_from object_bytes 0 xs in
+    let value = c.unwrap-value.result in
     let there : o < length xs = omega (arith, c.loop-object-test.true, c.len-object-end.ensures.counts) in
     let small : length xs ≤ 65536 = g.S.Store.short c.args.store.now in
-    elim c.match-read.branch [
-      | in-Some+in_ok-write_line w ↦
-          rw w.out-is (
-          line_more object_bytes o xs o now whole c.loop-object.invariant 0 (string_bytes w.write_line.new.out) there
-          (w.in_ok-write_line.ensures
-          ∙ ap (λ l. now ++ l)
-          (object_line_is _ o w.in-Some.value (get_or xs o 0) (omega (arith, small)) (value_there xs o w.in-Some.value c.read.result there c.read.ensures.reads w.in-Some.is)))
-          )
-      | in_default w ↦ absurd (not_there xs o c.read.result there c.read.ensures.reads w.in_default.is)
-    ]
+    line_more object_bytes o xs o now whole c.loop-object.invariant 0 (string_bytes c.write_line.new.out) there
+    (c.in_ok-write_line.ensures ∙ ap (λ l. now ++ l) (object_line_is _ o value (get_or xs o 0) (omega (arith, small)) (value_there xs o value c.read.result there c.read.ensures.reads c.unwrap-value.ensures)))
 
 pub returns : goal.returns
 returns g c =

@@ -1,61 +1,37 @@
-use Rattle.std.proofs.Common.{◌+◌, ◌≤◌, cond, List, [], ◌∷◌, ◌++◌, length, get_or, ap, ◌∙◌, arith}
+use Rattle.std.proofs.Common.{◌++◌, map, length, Some, ◌∙◌, ap, rules, arith}
 use Rattle.std.specs.Prelude.{filter}
-use Rattle.std.proofs.lemmas.List.{length-map, length_push}
-use Rattle.std.proofs.lemmas.Bool.{eq-eqb, ne_eqb}
-use Rattle.std.proofs.lemmas.List.Concat.{flat_map_single}
-use Rattle.protocol.specs.declared.assumptions.Execution.{Execution}
-use Rattle.protocol.specs.declared.assumptions.Version.{Version}
+use Rattle.std.proofs.iter.Serving.{serving}
+use Rattle.std.proofs.lemmas.Iterator.{YieldsList-from_slice, YieldsList-from_map}
+use Rattle.std.proofs.lemmas.Iterator.Consumers.{YieldsList-from_filter, YieldsList-at}
+use Rattle.std.proofs.lemmas.List.{length-map}
+use borrow.Author.Tests.{tests}
 use Rattle.protocol.specs.Image.{version_by}
 use Rattle.protocol.specs.Model.{names}
 use Rattle.tables.specs.Items.{items}
-use Rattle.std.proofs.Common.{Some}
-use Rattle.book.proofs.Adding.{past_end, adding_more, adding_none, adding_within, adding_all, of_those, with_room, room_ok}
+use Rattle.book.proofs.Gathered.{gathered, gathers}
 use Rattle.book.proofs.making.Making.versions.Goals as goal
-use Rattle.book.proofs.making.Making.versions.Goals.{then-execution-self, else-execution-self}
 
-pub loop-execution-preserved : goal.loop-execution-preserved
-loop-execution-preserved g c =
+pub gather-requires : goal.gather-requires
+gather-requires g c =
     let m = c.args.self.now in
-    let p = m.place.number in
     let f = version_by (g.R.JobRule.means m.rule.now) (Some m.job) m.object m.met in
-    let part : Execution → List Version = λ e. cond (names p e) (f e ∷ []) [] in
-    let es = c.args.executions.now in
-    let i = c.loop-execution.execution-index in
-    let e = get_or es i past_end in
-    let now = items c.loop-execution.all in
-    let here = c.loop-execution-test.true in
-    elim c.if-execution-self.branch [
-      | then-execution-self w ↦
-          let is = ap (λ b. cond b (f e ∷ []) []) (eq-eqb e.job p w.if-execution-self.true) in
-          let fits = ap length (of_those (names p) (λ e. f e ∷ []) es ∙ flat_map_single f (filter (names p) es)) in
-          let room : length now + 1 ≤ 16 = omega (arith, adding_within part [] now es i c.loop-execution.invariant past_end here (f e ∷ []) is, fits, length-map (filter (names p) es) f, length_push now (f e), c.requires) in
-          rw w.all-is (
-          adding_more part [] now es i c.loop-execution.invariant past_end here (f e ∷ []) (items w.push.new.self) is
-          (with_room 16 now (w.version.result ∷ []) (items w.push.new.self) w.push.result w.push.ensures.added room ∙ ap (λ v. now ++ v ∷ []) w.version.ensures))
-      | else-execution-self w ↦
-          let is = ap (λ b. cond b (f e ∷ []) []) (ne_eqb e.job p w.if-execution-self.false) in
-          rw w.all-is (adding_none part [] now es i c.loop-execution.invariant past_end here is)
-    ]
+    let own = filter (names m.place.number) c.args.executions.now in (
+      omega arith,
+      (
+        grind serving,
+        (
+          search rules,
+          gathers (length (items c.new-all.result)) 16 (omega (arith, c.requires, length-map own f, ap length c.new-all.ensures.starts))
+              (YieldsList-from_map {s = c.map-made.result} _ f (YieldsList-at c.map-made.ensures.source (YieldsList-from_filter {s = c.filter.result} _ (names m.place.number) (YieldsList-from_slice c.args.executions.now cc) c.filter.ensures.closure (λ x b q k. search (rules, tests)))) c.map-made.ensures.closure (λ x r q k. search rules)),
+        ),
+      ),
+    )
 
 pub returns : goal.returns
 returns g c =
     let m = c.args.self.now in
-    let p = m.place.number in
     let f = version_by (g.R.JobRule.means m.rule.now) (Some m.job) m.object m.met in
-    let es = c.args.executions.now in
-    adding_all (λ e. cond (names p e) (f e ∷ []) []) [] (items c.loop-execution.all) es c.loop-execution.execution-index c.loop-execution.invariant c.loop-execution-test.false
-    ∙ of_those (names p) (λ e. f e ∷ []) es ∙ flat_map_single f (filter (names p) es)
-
-pub unwrap-requires : goal.unwrap-requires
-unwrap-requires g c =
-    let m = c.args.self.now in
-    let p = m.place.number in
-    let f = version_by (g.R.JobRule.means m.rule.now) (Some m.job) m.object m.met in
-    let es = c.args.executions.now in
-    let i = c.loop-execution.execution-index in
-    let e = get_or es i past_end in
-    let now = items c.loop-execution.all in
-    let is = ap (λ b. cond b (f e ∷ []) []) (eq-eqb e.job p c.if-execution-self.true) in
-    let fits = ap length (of_those (names p) (λ e. f e ∷ []) es ∙ flat_map_single f (filter (names p) es)) in
-    let within = adding_within (λ e. cond (names p e) (f e ∷ []) []) [] now es i c.loop-execution.invariant past_end c.loop-execution-test.true (f e ∷ []) is in
-    room_ok 16 now (c.version.result ∷ []) (items c.push.new.self) c.push.result c.push.ensures.added (omega (arith, within, fits, length-map (filter (names p) es) f, length_push now (f e), c.requires))
+    let own = filter (names m.place.number) c.args.executions.now in
+    gathered (items c.new-all.result) (items c.gather.new.all) c.gather.ensures
+    (YieldsList-from_map {s = c.map-made.result} _ f (YieldsList-at c.map-made.ensures.source (YieldsList-from_filter {s = c.filter.result} _ (names m.place.number) (YieldsList-from_slice c.args.executions.now cc) c.filter.ensures.closure (λ x b q k. search (rules, tests)))) c.map-made.ensures.closure (λ x r q k. search rules))
+    ∙ ap (λ l. l ++ map f own) c.new-all.ensures.starts

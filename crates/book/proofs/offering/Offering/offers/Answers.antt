@@ -1,98 +1,47 @@
-use Rattle.std.proofs.Common.{◌+◌, ◌≤◌, not, List, [], ◌∷◌, ◌++◌, map, length, take, sym, refl, ap, ◌∙◌, rules, arith}
-use Rattle.std.specs.Prelude.{flat_map, filter}
-use Rattle.std.specs.Iterator.Adapters.{filter_source, filter_callee}
-use Rattle.std.specs.Slice.Iter.{iter_rest}
-use Rattle.std.proofs.lemmas.Iterator.{YieldsList-from_slice}
-use Rattle.std.proofs.lemmas.Iterator.Consumers.{YieldsList-from_filter, YieldsList-turn, YieldsList-end}
-use Rattle.std.proofs.lemmas.List.{length_push, length-append, length-map}
-use Rattle.std.proofs.lemmas.List.Concat.{flat_map_single}
+use Rattle.std.proofs.Common.{◌∷◌, ◌++◌, map, length, not, Some, refl, ◌∙◌, ap, rules, arith}
+use Rattle.std.specs.Prelude.{filter}
+use Rattle.std.proofs.iter.Serving.{serving}
+use Rattle.std.proofs.lemmas.Iterator.{YieldsList-from_slice, YieldsList-from_map}
+use Rattle.std.proofs.lemmas.Iterator.Adapters.{YieldsList-from_once}
+use Rattle.std.proofs.lemmas.Iterator.Consumers.{YieldsList-from_filter, YieldsList-at, YieldsList-from_chain}
+use Rattle.std.proofs.lemmas.List.{length-map}
 use Rattle.std.proofs.lemmas.List.Filters.{length-filter_both}
 use borrow.Author.Tests.{tests}
-use Rattle.protocol.specs.declared.assumptions.Offer.{Offer}
-use Rattle.protocol.specs.declared.assumptions.Version.{Version}
 use Rattle.protocol.specs.Pairing.{offer, of_object}
 use Rattle.tables.specs.Items.{items}
-use Rattle.book.proofs.Adding.{adding_more, adding_within, adding_all, with_room, room_ok}
+use Rattle.book.proofs.Gathered.{gathered, gathers}
 use Rattle.book.proofs.offering.Offering.offers.Goals as goal
 
-pub loop-version-preserved : goal.loop-version-preserved
-loop-version-preserved c =
+pub gather-requires : goal.gather-requires
+gather-requires c =
     let q = c.args.self.now in
     let f = offer q.holdings.now q.object in
-    let part : Version → List Offer = λ v. f v ∷ [] in
-    let t = of_object q.object in
     let vs = c.args.versions.now in
-    let before = items c.push.new.self in
-    let now = items c.loop-version.all in
-    let n = length c.loop-version.yielded in
-    let v = c.in-Some.version.now in
-    let i = c.into_iter-version-iterator.ensures.into_iter_gives in
-    let turn =
-    YieldsList-turn (YieldsList-from_filter {s = c.into_iter-version-iterator.result} _ t (YieldsList-from_slice vs (ap (λ s. iter_rest (filter_source s)) i ∙ cc)) (ap filter_callee i ∙ c.filter-version-items.ensures.closure) (λ x b q k. search (rules, tests)))
-    c.loop-version.yielded _ c.loop-version.yielded_by _ _ c.in-Some.version c.in-Some.is c.next.ensures.steps in
-    let is = ap part (sym turn.1) in
-    let first = with_room 257 (items c.new-all.result) (c.stored.result ∷ []) before c.push.result c.push.ensures.added (omega (arith, ap length c.new-all.ensures.starts)) in
-    let room : length now + 1 ≤ 257 =
-    omega (
-      arith,
-      adding_within part before now (filter t vs) n c.loop-version.invariant v turn.0 (f v ∷ []) is,
-      length_push now (f v),
-      length-append before (flat_map part (filter t vs)),
-      ap length (flat_map_single f (filter t vs)),
-      length-map (filter t vs) f,
-      length-filter_both t (λ v. not (t v)) (λ v. refl) vs,
-      ap length first,
-      ap length (ap (λ l. l ++ c.stored.result ∷ []) c.new-all.ensures.starts),
-      c.requires,
-    ) in
-    adding_more part before now (filter t vs) n c.loop-version.invariant v turn.0 (f v ∷ []) (items c.push-in-loop-version.new.self) is
-    (with_room 257 now (c.made.result ∷ []) (items c.push-in-loop-version.new.self) c.push-in-loop-version.result c.push-in-loop-version.ensures.added room ∙ ap (λ y. now ++ y ∷ []) c.made.ensures)
-    ∙ ap (λ n. before ++ flat_map part (take n (filter t vs))) (sym (length_push c.loop-version.yielded c.in-Some.version))
+    let t = of_object q.object in (
+      omega arith,
+      (
+        grind serving,
+        (
+          search rules,
+          gathers (length (items c.new-all.result)) 257 (omega (arith, c.requires, ap length c.new-all.ensures.starts, length-map (filter t vs) f, length-filter_both t (λ v. not (t v)) (λ v. refl) vs))
+              (YieldsList-from_chain {s = c.chain.result}
+              (YieldsList-at c.chain.ensures.first (YieldsList-from_once {s = c.into_iter.result} (Some c.stored.result) c.into_iter.ensures.into_iter_gives.0))
+              (YieldsList-at c.chain.ensures.second (YieldsList-from_map {s = c.map-made.result} _ f (YieldsList-at c.map-made.ensures.source (YieldsList-from_filter {s = c.filter.result} _ t (YieldsList-from_slice vs cc) c.filter.ensures.closure (λ x b q k. search (rules, tests)))) c.map-made.ensures.closure (λ x r q k. search rules)))
+              c.chain.ensures.first_done c.chain.ensures.second_done),
+        ),
+      ),
+    )
 
 pub returns : goal.returns
 returns c =
     let q = c.args.self.now in
     let f = offer q.holdings.now q.object in
-    let t = of_object q.object in
     let vs = c.args.versions.now in
-    let before = items c.push.new.self in
-    let i = c.into_iter-version-iterator.ensures.into_iter_gives in
-    let end =
-    YieldsList-end (YieldsList-from_filter {s = c.into_iter-version-iterator.result} _ t (YieldsList-from_slice vs (ap (λ s. iter_rest (filter_source s)) i ∙ cc)) (ap filter_callee i ∙ c.filter-version-items.ensures.closure) (λ x b q k. search (rules, tests)))
-    c.loop-version.yielded _ c.loop-version.yielded_by _ _ c.in-None.is c.next.ensures.steps in
-    let first = with_room 257 (items c.new-all.result) (c.stored.result ∷ []) before c.push.result c.push.ensures.added (omega (arith, ap length c.new-all.ensures.starts)) in
-    adding_all (λ v. f v ∷ []) before (items c.loop-version.all) (filter t vs) (length c.loop-version.yielded) c.loop-version.invariant (omega (arith, end.1))
-    ∙ ap (λ l. l ++ flat_map (λ v. f v ∷ []) (filter t vs)) (first ∙ ap (λ l. l ++ c.stored.result ∷ []) c.new-all.ensures.starts) ∙ ap (λ l. c.stored.result ∷ l) (flat_map_single f (filter t vs))
+    let t = of_object q.object in
+    gathered (items c.new-all.result) (items c.gather.new.all) c.gather.ensures
+    (YieldsList-from_chain {s = c.chain.result}
+    (YieldsList-at c.chain.ensures.first (YieldsList-from_once {s = c.into_iter.result} (Some c.stored.result) c.into_iter.ensures.into_iter_gives.0))
+    (YieldsList-at c.chain.ensures.second (YieldsList-from_map {s = c.map-made.result} _ f (YieldsList-at c.map-made.ensures.source (YieldsList-from_filter {s = c.filter.result} _ t (YieldsList-from_slice vs cc) c.filter.ensures.closure (λ x b q k. search (rules, tests)))) c.map-made.ensures.closure (λ x r q k. search rules)))
+    c.chain.ensures.first_done c.chain.ensures.second_done)
+    ∙ ap (λ l. l ++ c.stored.result ∷ map f (filter t vs)) c.new-all.ensures.starts
     ∙ ap (λ x. x ∷ map f (filter t vs)) c.stored.ensures
-
-pub unwrap-requires-in-loop-version : goal.unwrap-requires-in-loop-version
-unwrap-requires-in-loop-version c =
-    let q = c.args.self.now in
-    let f = offer q.holdings.now q.object in
-    let part : Version → List Offer = λ v. f v ∷ [] in
-    let t = of_object q.object in
-    let vs = c.args.versions.now in
-    let before = items c.push.new.self in
-    let now = items c.loop-version.all in
-    let n = length c.loop-version.yielded in
-    let v = c.in-Some.version.now in
-    let i = c.into_iter-version-iterator.ensures.into_iter_gives in
-    let turn =
-    YieldsList-turn (YieldsList-from_filter {s = c.into_iter-version-iterator.result} _ t (YieldsList-from_slice vs (ap (λ s. iter_rest (filter_source s)) i ∙ cc)) (ap filter_callee i ∙ c.filter-version-items.ensures.closure) (λ x b q k. search (rules, tests)))
-    c.loop-version.yielded _ c.loop-version.yielded_by _ _ c.in-Some.version c.in-Some.is c.next.ensures.steps in
-    let is = ap part (sym turn.1) in
-    let first = with_room 257 (items c.new-all.result) (c.stored.result ∷ []) before c.push.result c.push.ensures.added (omega (arith, ap length c.new-all.ensures.starts)) in
-    let room : length now + 1 ≤ 257 =
-    omega (
-      arith,
-      adding_within part before now (filter t vs) n c.loop-version.invariant v turn.0 (f v ∷ []) is,
-      length_push now (f v),
-      length-append before (flat_map part (filter t vs)),
-      ap length (flat_map_single f (filter t vs)),
-      length-map (filter t vs) f,
-      length-filter_both t (λ v. not (t v)) (λ v. refl) vs,
-      ap length first,
-      ap length (ap (λ l. l ++ c.stored.result ∷ []) c.new-all.ensures.starts),
-      c.requires,
-    ) in
-    room_ok 257 now (c.made.result ∷ []) (items c.push-in-loop-version.new.self) c.push-in-loop-version.result c.push-in-loop-version.ensures.added room

@@ -1,71 +1,32 @@
-use Rattle.std.proofs.Common.{cond, List, [], ◌++◌, map, length, get_or, ap, ◌∙◌, arith}
+use Rattle.std.proofs.Common.{cond, Some, None, map, refl, subst, rules}
+use Rattle.std.specs.Borrow.{Bor}
 use Rattle.std.specs.Prelude.{filter}
-use Rattle.std.proofs.lemmas.Bool.{eq-eqb, ne_eqb}
-use Rattle.std.proofs.lemmas.Result.{err_from_is_err_and}
+use Rattle.std.proofs.lemmas.Iterator.{YieldsList-from_slice, YieldsList-from_map_by}
+use Rattle.std.proofs.lemmas.Iterator.Adapters.{YieldsList-from_flat_map}
+use Rattle.std.proofs.lemmas.Iterator.Consumers.{YieldsList-from_filter, YieldsList-from_filter_map, YieldsList-at}
+use borrow.Author.Tests.{tests}
 use Rattle.protocol.specs.declared.assumptions.Execution.{Execution}
+use Rattle.protocol.specs.declared.assumptions.Offer.{Offer}
 use Rattle.protocol.specs.Model.{names}
-use Rattle.protocol.specs.Pairing.{is_kept, pairs}
-use Rattle.tables.specs.Items.{items}
-use Rattle.book.specs.Meeting.{meeting}
-use Rattle.book.proofs.Adding.{past_end, adding_more, adding_none, adding_within, adding_all, of_those}
+use Rattle.protocol.specs.Pairing.{is_kept}
+use Rattle.book.specs.Meeting.{meeting, Added}
+use Rattle.book.proofs.Kept.{adds_all, pairs_of}
 use Rattle.book.proofs.request.Request.pair_up.Goals as goal
-use Rattle.book.proofs.request.Request.pair_up.Goals.{then-execution-self+in_ok-add_pairs, else-execution-self}
-
-pub loop-execution-preserved : goal.loop-execution-preserved
-loop-execution-preserved g c =
-    let q = c.args.self.now in
-    let p = q.place.number in
-    let G : Execution → List Execution = λ e. filter (is_kept q.robustness) (map (meeting (g.R.JobRule.means q.rule.now) q e) c.args.offers.now) in
-    let part : Execution → List Execution = λ e. cond (names p e) (G e) [] in
-    let es = c.args.executions.now in
-    let i = c.loop-execution.execution-index in
-    let e = get_or es i past_end in
-    let before = items c.args.found.now.pairs in
-    let now = items c.loop-execution.found.pairs in
-    let inv = c.loop-execution.invariant in
-    elim c.if-execution-self.branch [
-      | then-execution-self+in_ok-add_pairs w ↦
-          let is = ap (λ b. cond b (G e) []) (eq-eqb e.job p w.if-execution-self.true) in
-          rw w.found-is
-          record { adds = adding_more part before now es i inv.adds past_end c.loop-execution-test.true (G e) (items w.add_pairs.new.found.pairs) is w.in_ok-add_pairs.ensures.added.0; within = w.add_pairs.ensures.within ∙ inv.within }
-      | else-execution-self w ↦
-          let is = ap (λ b. cond b (G e) []) (ne_eqb e.job p w.if-execution-self.false) in
-          rw w.found-is record { adds = adding_none part before now es i inv.adds past_end c.loop-execution-test.true is; within = inv.within }
-    ]
-
-pub returns-in_err-add_pairs : goal.returns-in_err-add_pairs
-unfolding pairs
-returns-in_err-add_pairs g c =
-    let q = c.args.self.now in
-    let p = q.place.number in
-    let G : Execution → List Execution = λ e. filter (is_kept q.robustness) (map (meeting (g.R.JobRule.means q.rule.now) q e) c.args.offers.now) in
-    let es = c.args.executions.now in
-    let i = c.loop-execution.execution-index in
-    let e = get_or es i past_end in
-    let before = items c.args.found.now.pairs in
-    let inv = c.loop-execution.invariant in
-    let x = err_from_is_err_and c.from_residual.result c.from_residual.ensures.1 in
-    let is = ap (λ b. cond b (G e) []) (eq-eqb e.job p c.if-execution-self.true) in
-    let within = adding_within (λ e. cond (names p e) (G e) []) before (items c.loop-execution.found.pairs) es i inv.adds past_end c.loop-execution-test.true (G e) is in
-    rw (x.1, x.2) record {
-      added = (c.in_err-add_pairs.ensures.added.0, omega (arith, within, ap length (ap (λ ys. before ++ ys) (of_those (names p) G es)), c.in_err-add_pairs.ensures.added.1, inv.within));
-      within = c.add_pairs.ensures.within ∙ inv.within;
-    }
 
 pub returns : goal.returns
-unfolding pairs
 returns g c =
     let q = c.args.self.now in
-    let p = q.place.number in
-    let G : Execution → List Execution = λ e. filter (is_kept q.robustness) (map (meeting (g.R.JobRule.means q.rule.now) q e) c.args.offers.now) in
-    let es = c.args.executions.now in
-    let before = items c.args.found.now.pairs in
-    let inv = c.loop-execution.invariant in
-    record {
-      added = (
-        adding_all (λ e. cond (names p e) (G e) []) before (items c.loop-execution.found.pairs) es c.loop-execution.execution-index inv.adds c.loop-execution-test.false
-            ∙ ap (λ ys. before ++ ys) (of_those (names p) G es),
-        omega (arith, c.loop-execution.found.few, inv.within),
-      );
-      within = inv.within;
-    }
+    let t = is_kept q.robustness in
+    let f = meeting (g.R.JobRule.means q.rule.now) q in
+    let found = c.args.found.now in
+    let os = c.args.offers.now in
+    let own = names q.place.number in
+    subst (λ l. Added found l c.add_all.new.self c.add_all.result) (pairs_of q.robustness f os (filter own c.args.executions.now))
+    (adds_all found c.add_all.new.self c.add_all.result c.add_all.ensures
+    (YieldsList-from_filter_map {s = c.filter_map.result} _ (λ (p : Execution × Offer). cond (t (f p.0 p.1)) (Some (f p.0 p.1)) None)
+    (YieldsList-at c.filter_map.ensures.source
+    (YieldsList-from_flat_map {s = c.flat_map.result} _ _ _ (λ (p : Bor Execution × Bor Offer). (p.0.now, p.1.now)) (λ e. map (λ o. (e, o)) os) _
+    (λ x u q k. (search rules, λ j b. YieldsList-at (search rules) (YieldsList-from_map_by {s = u} _ (λ (p : Bor Execution × Bor Offer). (p.0.now, p.1.now)) (λ o. (x.now, o)) (YieldsList-from_slice os (search rules)) refl (λ y r p m. search rules))))
+    (YieldsList-at c.flat_map.ensures.source (YieldsList-from_filter {s = c.filter.result} _ own (YieldsList-from_slice c.args.executions.now cc) c.filter.ensures.closure (λ x b q k. search (rules, tests))))
+    c.flat_map.ensures.closure c.flat_map.ensures.front c.flat_map.ensures.back c.flat_map.ensures.done))
+    c.filter_map.ensures.closure (λ x r q k. search rules)))

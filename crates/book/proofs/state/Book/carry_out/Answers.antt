@@ -13,14 +13,14 @@ pub loop-call-preserved : goal.loop-call-preserved
 loop-call-preserved g c =
     let r = g.R.JobRule.means c.args.rule.now in
     let m = view (g.S.Store.values c.loop-call.store) c.loop-call.self in
-    let n = view (g.S.Store.values c.call.new.store) c.call.new.self in
+    let n = view (g.S.Store.values c.call-answer.new.store) c.call-answer.new.self in
     let cs = c.args.calls.now in
     let i = c.loop-call.call-index in
     let d : Call = Begin 0 0 0 in
     let x = get_or cs i d in
     let given = vec_items c.loop-call.answers in (
-      sym (at_drop_more (run r m) cs i d c.loop-call-test.true ∙ run_more r m x (drop (i + 1) cs) ∙ ap (λ m. run r m (drop (i + 1) cs)) (step_from r m x c.call.result n c.call.ensures)) ∙ c.loop-call.invariant.0,
-      answers_step r m n x c.call.result c.err-answer.result (drop (i + 1) cs) given (vec_items c.push_reserved.new.self) c.call.ensures c.err-answer.ensures.value c.push_reserved.ensures.items
+      sym (at_drop_more (run r m) cs i d c.loop-call-test.true ∙ run_more r m x (drop (i + 1) cs) ∙ ap (λ m. run r m (drop (i + 1) cs)) (step_from r m x c.call-answer.result n c.call-answer.ensures)) ∙ c.loop-call.invariant.0,
+      answers_step r m n x c.call-answer.result (drop (i + 1) cs) given (vec_items c.push_reserved.new.self) c.call-answer.ensures c.push_reserved.ensures.items
           ∙ sym (at_drop_more (λ l. given ++ answers_of r m l) cs i d c.loop-call-test.true) ∙ c.loop-call.invariant.1,
       omega (arith, c.loop-call.invariant.2, c.push_reserved.ensures.len, c.push_reserved.ensures.capacity),
     )

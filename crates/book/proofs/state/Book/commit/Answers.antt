@@ -1,13 +1,12 @@
 use Rattle.std.proofs.Common.{◌≡◌, ℕ, List, Some, None, sym, ap, ◌∙◌, subst}
 use Rattle.terms.specs.declared.calls.Call.TheVariants.{Commit}
 use Rattle.protocol.specs.declared.jobs.Ending.TheVariants.{Committed}
-use Rattle.protocol.specs.Ending.{written, commit_barred}
-use Rattle.protocol.specs.Lock.{no_live_job}
+use Rattle.protocol.specs.Ending.{written}
 use Rattle.protocol.specs.Settling.{settle}
 use Rattle.protocol.specs.Step.{answer, next}
 use Rattle.tables.specs.Items.{items}
 use Rattle.book.specs.View.{view}
-use Rattle.book.proofs.Locking.{first_append, no_place}
+use Rattle.book.proofs.Locking.{no_place}
 use Rattle.book.proofs.Steps.{refused}
 use Rattle.book.proofs.Written.{commit_answer, committed_is}
 use Rattle.book.proofs.state.Book.commit.Goals as goal
@@ -22,7 +21,7 @@ pub returns-in_err-may_commit : goal.returns-in_err-may_commit
 returns-in_err-may_commit g c = λ rule.
     let m = view (g.S.Store.values c.args.store.now) c.args.self.now in
     refused rule m (Commit c.args.place) c.from_residual-in_err-may_commit.result c.in_err-may_commit.field-0.0 c.from_residual-in_err-may_commit.ensures.1
-    (subst (λ p. answer rule m (Commit p) ≡ Some c.in_err-may_commit.field-0.0) c.in_ok-here.ensures (commit_answer rule m c.in_ok-here.here.number ∙ c.in_err-may_commit.ensures))
+    (subst (λ p. answer rule m (Commit p) ≡ Some c.in_err-may_commit.field-0.0) c.in_ok-here.ensures (commit_answer rule m c.in_ok-here.here.number ∙ sym c.in_err-may_commit.ensures))
 
 pub returns : goal.returns
 returns g c = λ rule.
@@ -31,10 +30,9 @@ returns g c = λ rule.
     let ys = g.S.Store.values c.write.new.store in
     let m = view xs b in
     let p = c.in_ok-here.here.number in
-    let ok = c.in_ok-may_commit.ensures in
     let vs : ys ≡ written p (items b.versions) (items b.holdings) xs =
     c.write.ensures ∙ ap (λ l. written p l c.in_use-2.result.now xs) c.in_use.ensures ∙ ap (λ l. written p (items b.versions) l xs) c.in_use-2.ensures in
     subst (λ p. (answer rule m (Commit p) ≡ None) × (view ys c.end.new.self ≡ next rule m (Commit p))) c.in_ok-here.ensures (
-      commit_answer rule m p ∙ first_append (no_live_job m p) (commit_barred m p) ok.0 ∙ ok.1,
+      commit_answer rule m p ∙ sym c.in_ok-may_commit.ensures,
       c.end.ensures xs ys ∙ ap (λ (l : List ℕ). settle Committed p l m) vs ∙ committed_is rule m p,
     )

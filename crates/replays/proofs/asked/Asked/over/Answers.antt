@@ -11,6 +11,6 @@ pub returns-in-Ok : goal.returns-in-Ok
 returns-in-Ok g c =
     let m = c.in-Ok.ensures.model in
     made_map c.tell.result
-    (λ out e. replay_is (g.R.JobRule.means c.args.rule.now) c.args.self.now.setup.robustness c.args.self.now.setup.limit (g.S.Store.values c.args.store.now) c.args.self.now.readings.now c.as_slice.result.now
+    (λ out e. replay_is (g.R.JobRule.means c.args.rule.now) c.args.self.now.setup (g.S.Store.values c.args.store.now) c.args.self.now.readings.now c.as_slice.result.now
     (c.as_slice.ensures.value ∙ c.in_ok-calls.ensures) (vec_items c.in-Ok.done.answers) (view (g.S.Store.values c.run.new.store) c.in-Ok.done.book) (string_bytes out) m.0 m.1 m.2 e)
     c.tell.ensures

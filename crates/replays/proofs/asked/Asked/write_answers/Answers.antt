@@ -1,7 +1,7 @@
-use Rattle.std.proofs.Common.{◌+◌, ◌++◌, string_bytes, ap, ◌∙◌}
+use Rattle.std.proofs.Common.{◌+◌, ◌++◌, Ok, string_bytes, ap, ◌∙◌}
 use Rattle.script.specs.Outputs.{answer_bytes}
 use Rattle.replays.proofs.Merging.{next_answer, line_of_call, line_of_fault, lines_told}
-use Rattle.std.specs.Option.{option_flatten}
+use Rattle.std.specs.Prelude.{unwrap_or}
 use Rattle.replays.proofs.asked.Asked.write_answers.Goals as goal
 use Rattle.replays.proofs.asked.Asked.write_answers.Goals.{in-Ok, in-Err}
 
@@ -12,8 +12,8 @@ loop-i-preserved c =
     elim c.match-reading.branch [
       | in-Ok w ↦
           rw w.left-is (
-          line_of_call rs c.loop-i.i _ c.loop-i-test.true c.loop-i.left.rest.now now _ c.loop-i.invariant _ _ w.flatten.result _ w.in-Ok.is
-          (let n = next_answer c.loop-i.left w.next.new.self w.next.result w.next.ensures.steps in (w.flatten.ensures ∙ ap option_flatten w.copied.ensures ∙ n.0, n.1))
+          line_of_call rs c.loop-i.i _ c.loop-i-test.true c.loop-i.left.rest.now now _ c.loop-i.invariant _ _ w.unwrap_or.result _ w.in-Ok.is
+          (let n = next_answer c.loop-i.left w.next.new.self w.next.result w.next.ensures.steps in (w.unwrap_or.ensures ∙ ap (λ r. unwrap_or r (Ok tt)) w.copied.ensures ∙ n.0, n.1))
           (c.in_ok-write_line.ensures ∙ ap (λ a. now ++ answer_bytes (c.loop-i.i + 2) a) (w.answer-is ∙ w.answer_number-answer.ensures))
           )
       | in-Err w ↦
