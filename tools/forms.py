@@ -64,7 +64,7 @@ def lines_with(root, pattern):
 def numbered(root):
     """Functions that match variants to numbers or numbers to variants, and constants and lists of such numbers."""
     found = []
-    arm = r"^\s*(\w+::\w+ => \d+|\d+ => Some\(\w+::\w+\)),$"
+    arm = r"^\s*(\w+::\w+ => \d+|\d+ => (Some|Ok)\(\w+::\w+\)),$"
     for path in sources(root):
         for number, name, _, body in functions(path.read_text().split("\n")):
             if any(re.search(arm, line) for line in body):
@@ -74,7 +74,7 @@ def numbered(root):
 
 def wrapped(root):
     """Errors that are taken apart and put together again."""
-    return lines_with(root, r"Err\(\w+\) => (return )?Err\(|return Err\(\w+::\w+\(\w+\)\)|^\s*let (Ok|Err)\(.*else \{")
+    return lines_with(root, r"Err\([\w:]+(\(\w+\))?\) => (return )?Err\(|return Err\(\w+::\w+\(\w+\)\)|^\s*let (Ok|Err)\(.*else \{")
 
 
 def twins(root):
@@ -97,6 +97,19 @@ def facts(root):
                 for fact in re.split(r" × ", clause.group(1)) if clause else []:
                     groups[fact.strip("() ")].append(f"{path.relative_to(root)}:{number}: {name}")
     return [f"{fact}: " + ", ".join(group) for fact, group in groups.items() if len(group) > 2]
+
+
+def promises(root):
+    """Clauses that three or more functions of a crate promise word for word."""
+    groups = collections.defaultdict(list)
+    for path in sources(root):
+        crate = path.relative_to(root / "crates").parts[0]
+        for number, name, contract, _ in functions(path.read_text().split("\n")):
+            for line in contract:
+                clause = re.match(r"\s*ensures(?: \w+)? \{ (.*) \}$", line)
+                if clause:
+                    groups[crate, clause.group(1)].append(f"{path.relative_to(root)}:{number}: {name}")
+    return [f"{crate}: {clause}: " + ", ".join(group) for (crate, clause), group in sorted(groups.items()) if len(group) > 2]
 
 
 def companions(root):
@@ -124,6 +137,7 @@ POINTS = [
     ("4c casts", lambda root: lines_with(root, r"\bas (u8|u16|u32|u64|usize)\b")),
     ("5a conditions that three or more functions ask for", facts),
     ("5b parameters that travel together", companions),
+    ("5c clauses that three or more functions promise word for word", promises),
     ("6  fixed buffers in structs", lambda root: lines_with(root, r"^\s+(pub )?\w+: \[.*; .*\],$")),
     ("7  impls of traits that stand for one function", lambda root: lines_with(root, r"^impl(<.*>)? \w*(Predicate|Step|Action)\w* for")),
 ]
