@@ -1,3 +1,4 @@
+pub mod Digits
 pub mod Joins
 pub mod Turns
 pub mod Steps

@@ -1,11 +1,8 @@
 -- The numbers of a script are those that `decimal` writes.
-use Rattle.std.proofs.Common.{◌≡◌, ℕ, ◌+◌, ◌-◌, ◌*◌, ◌^◌, ◌<◌, ◌≤◌, Bool, true, false, cond, List, [], ◌∷◌, length, get_or, Some, None, Ok, Err, Result, MatchResult, Bor, decimal, sym, refl, ap, ◌∙◌, ⊎_elim, arith, rules}
-use Rattle.std.specs.Result.{result_ok, OkIff}
-use Rattle.std.specs.Str.{all_ascii_digits, IsUtf8}
-use Rattle.std.specs.Str.Parse.{ParsesUnsigned}
-use Rattle.std.proofs.lemmas.Str.{IsUtf8-from_ascii}
-use Rattle.std.proofs.lemmas.Str.Parse.{IsNumeralModel, numerals_by_fold, digits_value_short, parse_plain}
-use Rattle.std.proofs.lemmas.Fmt.{IsAscii-from_digits, decimal-digits_value, decimal_digit, digits_decimal, digits_value-decimal, length-decimal-le, decimal_nonempty, first_decimal}
+use Rattle.std.proofs.Common.{◌≡◌, ℕ, ◌+◌, ◌-◌, ◌*◌, ◌^◌, ◌<◌, ◌≤◌, true, cond, List, [], ◌∷◌, length, get_or, Some, None, decimal, sym, refl, ap, ◌∙◌, ⊎_elim, arith, rules}
+use Rattle.std.specs.Str.{all_ascii_digits}
+use Rattle.std.proofs.lemmas.Str.Parse.{IsNumeralModel, numerals_by_fold, digits_value_short}
+use Rattle.std.proofs.lemmas.Fmt.{decimal-digits_value, decimal_digit, digits_decimal, digits_value-decimal, length-decimal-le, decimal_nonempty, first_decimal}
 use Rattle.std.proofs.lemmas.Bool.{cases_lt, cases_eq}
 use Rattle.std.proofs.lemmas.Bool.Decides.{nat_tests}
 use Rattle.fields.specs.Number.{number_in, read_on, only_zero, NumbersAreDecimals}
@@ -69,38 +66,3 @@ forth (c ∷ cs) n e =
 
 pub numbers_are_decimals : NumbersAreDecimals (10 ^ 18)
 numbers_are_decimals = (forth, back)
-
--- what is parsed, of bytes that begin with a digit other than `0` and are not too many
-module _ (bs : List ℕ) (low : 48 < get_or bs 0 0) (high : get_or bs 0 0 ≤ 57) (short : length bs ≤ 18) where
-  some : (ds : List ℕ) → 48 < get_or ds 0 0 → 0 < length ds
-  some [] h = absurd (omega arith)
-  some (d ∷ ds) h = omega arith
-
-  said : number_in bs ≡ cond (all_ascii_digits bs) (Some (value_on 0 bs)) None
-  said = long bs (some bs low) short (λ e. omega arith) ∙ read_is 0 bs
-
-  by_parse : {E : Type 0} (r : Result ℕ E) → OkIff r ((all_ascii_digits bs ≡ true) × (0 < length bs) × (value_on 0 bs < 2 ^ 64)) (value_on 0 bs) → (t : Bool) → all_ascii_digits bs ≡ t → result_ok r ≡ cond t (Some (value_on 0 bs)) None
-  by_parse (Ok x) h true e = ap Some h.1
-  by_parse (Err x) h true e =
-      let v = digits_value_short own bs 18 e short in
-      absurd (h (e, some bs low, omega arith))
-  by_parse (Ok x) h false e = let p = h.0.0 in absurd (grind arith)
-  by_parse (Err x) h false e = refl
-
-  -- the number that is parsed
-  pub parsed : {E : Type 0} (r : Result ℕ E) → ParsesUnsigned 64 10 bs r → result_ok r ≡ number_in bs
-  parsed r h = by_parse r (parse_plain own 64 bs r h (λ e. omega arith)) (all_ascii_digits bs) refl ∙ sym said
-
-  -- digits are UTF-8
-  pub no_text : {T E : Type 0} (P : T → Type 0) (Q : E → Type 0) (u : Result T E) → MatchResult u P (λ e. ¬ (IsUtf8 bs) × Q e) → result_ok u ≡ None → None ≡ number_in bs
-  no_text P Q (Ok x) h e = absurd (grind arith)
-  no_text P Q (Err x) h e = sym (said ∙ none (all_ascii_digits bs) refl)
-    where
-      none : (t : Bool) → all_ascii_digits bs ≡ t → cond t (Some (value_on 0 bs)) None ≡ None
-      none true t = absurd (h.0 (IsUtf8-from_ascii bs (IsAscii-from_digits bs (own.to bs t))))
-      none false t = refl
-
--- the text is the bytes
-pub text_is : {E : Type 0} (bs : List ℕ) (R : E → Type 0) (u : Result (Bor (List ℕ)) E) → MatchResult u (λ s. (s.now ≡ bs) × IsUtf8 bs) R → (s : Bor (List ℕ)) → result_ok u ≡ Some s → s.now ≡ bs
-text_is bs R (Ok x) h s e = let same : x ≡ s = grind arith in ap (λ y. y.now) (sym same) ∙ h.0
-text_is bs R (Err x) h s e = absurd (grind arith)

@@ -1,13 +1,10 @@
--- The number that digits write.
-use Rattle.std.proofs.Common.{◌≡◌, ℕ, ◌^◌, ◌<◌, Bool, true, false, List, length, get_or, Some, None, Ok, Err, Result, MatchResult, refl, ap, ◌∙◌, arith, rules}
-use Rattle.std.specs.Result.{result_ok, OkIff}
-use Rattle.std.specs.Str.{IsUtf8}
-use Rattle.std.specs.Str.Parse.{ParsesUnsigned}
-use Rattle.std.proofs.lemmas.Str.{IsUtf8-from_ascii}
-use Rattle.std.proofs.lemmas.Str.Parse.{IsNumeralModel, numerals_by_fold, parse_plain}
-use Rattle.std.proofs.lemmas.Fmt.{IsAscii-from_digits}
+-- The number that digits write, byte by byte.
+use Rattle.std.proofs.Common.{◌≡◌, ℕ, ◌+◌, ◌-◌, ◌*◌, ◌^◌, ◌<◌, ◌≤◌, true, cond, ◌&&◌, List, [], ◌∷◌, length, Some, None, Option, arith, rules}
+use Rattle.std.specs.Prelude.{nat_lt}
+use Rattle.std.proofs.lemmas.Str.Parse.{IsNumeralModel, numerals_by_fold}
 use Rattle.std.proofs.lemmas.Bool.Decides.{nat_tests}
-use Rattle.planner.specs.Numbers.{digits, value_after, number_of}
+use Rattle.planner.specs.Numbers.{digits, value_after, number_of, with_digit}
+use Rattle.planner.proofs.Folds.{tried}
 
 pub own : IsNumeralModel (λ ds. digits ds ≡ true) (value_after 0)
 own = numerals_by_fold _ (search rules) value_after (search rules)
@@ -19,22 +16,21 @@ Tells line = (digits line ≡ true) × (0 < length line) × (value_after 0 line 
 pub number_told : (line : List ℕ) → Tells line → Some (value_after 0 line) ≡ number_of line
 number_told line (all, some, small) = grind (arith, nat_tests)
 
-none_told : (line : List ℕ) → ¬ (Tells line) → None ≡ number_of line
-none_told line untold = by (digits line) refl
-  where
-    by : (t : Bool) → digits line ≡ t → None ≡ number_of line
-    by true all = grind (arith, nat_tests)
-    by false e = grind (arith, nat_tests)
+-- the number of digits that stand after those of n
+abbrev number_after : ℕ → List ℕ → Option ℕ
+number_after n rest = cond (digits rest && nat_lt (value_after n rest) (2 ^ 64)) (Some (value_after n rest)) None
 
-as_told : {E : Type 0} (line : List ℕ) (r : Result ℕ E) → OkIff r (Tells line) (value_after 0 line) → result_ok r ≡ number_of line
-as_told line (Ok x) h = ap Some h.1 ∙ number_told line h.0
-as_told line (Err x) h = none_told line h
+-- a value never falls as digits follow
+no_less : (n : ℕ) (rest : List ℕ) → n ≤ value_after n rest
+no_less n [] = omega arith
+no_less n (byte ∷ rest) = omega (arith, no_less (n * 10 + (byte - 48)) rest)
 
--- the number that is parsed, where the first byte is no plus
-pub parsed : {E : Type 0} (line : List ℕ) (r : Result ℕ E) → ParsesUnsigned 64 10 line r → (get_or line 0 0 ≡ 43 → ⊥) → result_ok r ≡ number_of line
-parsed line r h plain = as_told line r (parse_plain own 64 line r h plain)
+read_on : (n : ℕ) (rest : List ℕ) → n < 2 ^ 64 → tried with_digit n rest ≡ number_after n rest
+read_on n [] small = grind (arith, nat_tests)
+read_on n (byte ∷ rest) small =
+    let ih = read_on (n * 10 + (byte - 48)) rest in
+    let more = no_less (n * 10 + (byte - 48)) rest in
+    grind (arith, nat_tests)
 
--- digits are UTF-8
-pub no_text : {T E : Type 0} (line : List ℕ) (P : T → Type 0) (Q : E → Type 0) (u : Result T E) → MatchResult u P (λ e. ¬ (IsUtf8 line) × Q e) → result_ok u ≡ None → None ≡ number_of line
-no_text line P Q (Ok x) h e = absurd (grind arith)
-no_text line P Q (Err x) h e = none_told line (λ told. h.0 (IsUtf8-from_ascii line (IsAscii-from_digits line (own.to line told.0))))
+pub parsed : (line : List ℕ) → 0 < length line → tried with_digit 0 line ≡ number_of line
+parsed line some = let r = read_on 0 line (omega arith) in grind (arith, nat_tests)

@@ -1,5 +1,6 @@
 pub mod Taken
 pub mod Sheets
+pub mod Folds
 pub mod Digits
 pub mod Cuts
 pub mod Laid
