@@ -10,22 +10,18 @@ use Rattle.protocol.specs.Holdings.{jobs_of, makers, later_makers, holds, held_b
 use Rattle.protocol.specs.Places.{single, join, placed}
 use Rattle.holders.proofs.Joins.{join_assoc, join_none, none_join, placed_join, placed_zero}
 
--- the set, with the job of a holding
-abbrev pub with_job : PlaceSet → Holding → PlaceSet
-with_job set h = join set (placed (single h.job))
+-- the set, with the job of a holding that passes the test
+abbrev pub with_job : (Holding → Bool) → PlaceSet → Holding → PlaceSet
+with_job t set h = cond (t h) (join set (placed (single h.job))) set
 
-pub jobs_folded : (t : Holding → Bool) (hs : List Holding) (set : PlaceSet) → fold with_job set (filter t hs) ≡ join set (placed (jobs_of t hs))
+pub jobs_folded : (t : Holding → Bool) (hs : List Holding) (set : PlaceSet) → fold (with_job t) set hs ≡ join set (placed (jobs_of t hs))
 unfolding jobs_of
 jobs_folded t [] set = sym (ap (join set) placed_zero ∙ join_none set)
-jobs_folded t (h ∷ hs) set = go (t h) (jobs_folded t hs (with_job set h)) (jobs_folded t hs set)
+jobs_folded t (h ∷ hs) set = jobs_folded t hs (with_job t set h) ∙ go (t h)
   where
-    go : (b : Bool)
-        → fold with_job (with_job set h) (filter t hs) ≡ join (with_job set h) (placed (jobs_of t hs))
-        → fold with_job set (filter t hs) ≡ join set (placed (jobs_of t hs))
-        → fold with_job set (cond b (h ∷ filter t hs) (filter t hs)) ≡ join set (placed (join (cond b (single h.job) 0) (jobs_of t hs)))
-    go true with_h without_h =
-        with_h ∙ join_assoc set (placed (single h.job)) (placed (jobs_of t hs)) ∙ ap (join set) (sym (placed_join (single h.job) (jobs_of t hs)))
-    go false with_h without_h = without_h ∙ ap (λ n. join set (placed n)) (sym (none_join (jobs_of t hs)))
+    go : (b : Bool) → join (cond b (join set (placed (single h.job))) set) (placed (jobs_of t hs)) ≡ join set (placed (join (cond b (single h.job) 0) (jobs_of t hs)))
+    go true = join_assoc set (placed (single h.job)) (placed (jobs_of t hs)) ∙ ap (join set) (sym (placed_join (single h.job) (jobs_of t hs)))
+    go false = ap (λ n. join set (placed n)) (sym (none_join (jobs_of t hs)))
 
 -- where object o stands is how many of the job's objects stand before it
 pub position_counted : (p o : ℕ) (hs : List Holding) → length (take_while (λ h. not (eqb h.object o)) (filter (held_by p) hs)) ≡ position p o hs

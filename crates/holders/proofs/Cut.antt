@@ -30,6 +30,10 @@ pub makers_placed : (o : ℕ) (hs : List Holding) → Placed hs → placed (make
 unfolding makers
 makers_placed o = jobs_placed _
 
+pub new_waits_placed : (hs : List Holding) (h : Holding) → Placed hs → placed (new_waits hs h) ≡ new_waits hs h
+unfolding new_waits
+new_waits_placed hs h = jobs_placed _ hs
+
 pub waits_placed : (hs : List Holding) (p : ℕ) → Placed hs → placed (waits hs p) ≡ waits hs p
 waits_placed hs p = whole (λ hs. waits hs p) (blocks p) (waits_none p) (waits_more p) hs
 

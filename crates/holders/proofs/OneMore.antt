@@ -1,12 +1,13 @@
 -- One more holding: its job waits for those in its way besides, and no other job for more.
-use Rattle.std.proofs.Common.{◌≡◌, ℕ, zero, suc, ◌+◌, ◌<◌, Bool, true, false, cond, not, ◌&&◌, ◌||◌, eqb, List, [], ◌∷◌, ◌++◌, length, get_or, take, drop, sym, refl, ap, ◌∙◌, ap₂, arith}
-use Rattle.std.specs.Prelude.{filter, fold}
+use Rattle.std.proofs.Common.{◌≡◌, ℕ, zero, suc, ◌+◌, ◌<◌, ◌≤◌, Bool, true, false, cond, not, ◌&&◌, ◌||◌, eqb, List, [], ◌∷◌, ◌++◌, length, get_or, take, drop, set, replicate, sym, refl, ap, ◌∙◌, ap₂, inl, inr, arith}
+use Rattle.std.specs.Prelude.{filter, fold, slice_index}
 use Rattle.std.specs.List.{list_any, enumerate_from}
-use Rattle.std.proofs.lemmas.List.{take_more, take_all, drop_all, at_drop_more}
+use Rattle.std.proofs.lemmas.List.{take_more, take_all, drop_all, at_drop_more, length-set, length-replicate, get_or-replicate, get_or-set_same, get_or-set_other}
 use Rattle.std.proofs.lemmas.List.Folds.{list_any-append}
 use Rattle.std.proofs.Math.Bool.{and-false, or-false}
-use Rattle.std.proofs.lemmas.Bool.{eqb-true, eqb-false, eq-eqb, ne_eqb}
+use Rattle.std.proofs.lemmas.Bool.{cases_eq, eqb-true, eqb-false, eq-eqb, ne_eqb}
 use Rattle.protocol.specs.declared.holdings.Holding.{Holding}
+use Rattle.protocol.specs.declared.places.PlaceSet.{PlaceSet}
 use Rattle.protocol.specs.Holdings.{waits, new_waits, jobs_of, clash}
 use Rattle.protocol.specs.Places.{single, join, placed}
 use Rattle.protocol.specs.Empty.{no_holding}
@@ -109,3 +110,39 @@ module _ (p : ℕ) (hs : List Holding) where
 
   pub waits_folded : fold with_own 0 (filter own (enumerate_from 0 hs)) ≡ placed (waits hs p)
   waits_folded = folded_from (length hs) 0 0 (omega arith) (sym (ap placed (waits_none p) ∙ placed_zero))
+
+-- ---- the sets of all places
+-- the p-th set has what job p waits for by the first i holdings
+pub record Waiting (hs : List Holding) (sets : List PlaceSet) (i : ℕ) : Type 0 where
+  pub long : length sets ≡ 16
+  pub told : (p : ℕ) → p < 16 → slice_index sets p ≡ placed (waits (take i hs) p)
+
+pub waiting_none : (hs : List Holding) → Waiting hs (replicate 16 0) 0
+waiting_none hs = record {
+  long = length-replicate {A = PlaceSet} 16 0;
+  told = λ p l. get_or-replicate {A = PlaceSet} 16 p 0 0 l ∙ sym (ap placed (waits_none p) ∙ placed_zero);
+}
+
+module _ (hs : List Holding) (sets : List PlaceSet) (i : ℕ) (l : i < length hs) (inv : Waiting hs sets i) where
+  abbrev h : Holding
+  h = get_or hs i no_holding
+
+  other : (p : ℕ) → p < 16 → (h.job ≡ p → ⊥) → slice_index sets p ≡ placed (waits (take (i + 1) hs) p)
+  other p m ne = waits_other p hs i l (slice_index sets p) (inv.told p m) no_holding ne
+
+  pub waiting_skip : 16 ≤ (get_or hs i no_holding).job → Waiting hs sets (i + 1)
+  waiting_skip far = record { long = inv.long; told = λ p m. other p m (λ e. omega arith) }
+
+  pub waiting_more : (new : PlaceSet) → (get_or hs i no_holding).job < 16
+      → new ≡ join (slice_index sets (get_or hs i no_holding).job) (placed (new_waits (take i hs) (get_or hs i no_holding)))
+      → Waiting hs (set sets (get_or hs i no_holding).job new) (i + 1)
+  waiting_more new near is = record {
+    long = length-set sets h.job new ∙ inv.long;
+    told = λ p m. elim (cases_eq h.job p) [ inl e ↦ here p m e | inr ne ↦ get_or-set_other sets h.job p new 0 (λ e. ne (sym e)) ∙ other p m ne ];
+  }
+    where
+      here : (p : ℕ) → p < 16 → h.job ≡ p → slice_index (set sets h.job new) p ≡ placed (waits (take (i + 1) hs) p)
+      here p m e =
+          ap (slice_index (set sets h.job new)) (sym e) ∙ get_or-set_same sets h.job new 0 (omega (arith, inv.long)) ∙ is
+          ∙ ap (λ q. join (slice_index sets q) (placed (new_waits (take i hs) h))) e
+          ∙ waits_own p hs i l (slice_index sets p) (inv.told p m) no_holding e

@@ -1,6 +1,6 @@
 -- What a set reaches by waiting, one place and one round after another.
 use Rattle.std.proofs.Common.{◌≡◌, ℕ, zero, suc, ◌+◌, ◌<◌, ◌≤◌, Bool, true, false, cond, List, [], ◌∷◌, length, sym, refl, ap, ◌∙◌, ap₂, add-one, arith}
-use Rattle.std.specs.Prelude.{filter, fold}
+use Rattle.std.specs.Prelude.{fold}
 use Rattle.std.specs.List.{zip, range_with_len}
 use Rattle.protocol.specs.declared.places.PlaceSet.{PlaceSet}
 use Rattle.protocol.specs.Holdings.{spread, rounds, reach}
@@ -26,35 +26,30 @@ unfolding rounds
 rounds_more w n s = refl
 
 -- ---- what the chains give
--- the set, with one of a row of sets
-abbrev pub with_set : PlaceSet → ℕ × PlaceSet → PlaceSet
-with_set all p = join all p.1
-
 spread_step : (w : ℕ → ℕ) (n s : ℕ) (b : Bool) → has s n ≡ b → spread w (n + 1) s ≡ join (cond b (w n) 0) (spread w n s)
 spread_step w n s b h = ap (λ k. spread w k s) (add-one n) ∙ spread_more w n s ∙ ap (λ b. join (cond b (w n) 0) (spread w n s)) h
 
-module _ (w : ℕ → ℕ) (s : ℕ) where
-  -- the sets of the row, the first for place a, of those places that s has
-  abbrev added : ℕ → List PlaceSet → List (ℕ × PlaceSet)
-  added a row = filter (λ p. has s p.0) (zip (range_with_len a (length row)) row)
+-- the set, with one of a row of sets, where s has its place
+abbrev pub with_set : PlaceSet → PlaceSet → ℕ × PlaceSet → PlaceSet
+with_set s all p = cond (has s p.0) (join all p.1) all
 
+module _ (w : ℕ → ℕ) (s : PlaceSet) where
+  -- the first set of the row is for place a
   spread_folded : (a : ℕ) (row : List PlaceSet) (all : PlaceSet) → ((k : ℕ) → k < length row → slice_index row k ≡ w (a + k)) → all ≡ spread w a s
-      → fold with_set all (added a row) ≡ spread w (a + length row) s
+      → fold (with_set s) all (zip (range_with_len a (length row)) row) ≡ spread w (a + length row) s
   spread_folded a [] all is so = so ∙ ap (λ n. spread w n s) (omega arith)
   spread_folded a (x ∷ row) all is so =
-      go (has s a) refl
-      (λ more e. spread_folded (a + 1) row more (λ k l. is (suc k) (omega arith) ∙ ap w (omega arith)) e ∙ ap (λ n. spread w n s) (omega arith))
+      spread_folded (a + 1) row (with_set s all (a, x)) (λ k l. is (suc k) (omega arith) ∙ ap w (omega arith)) (go (has s a) refl)
+      ∙ ap (λ n. spread w n s) (omega arith)
     where
-      go : (b : Bool) → has s a ≡ b
-          → ((more : PlaceSet) → more ≡ spread w (a + 1) s → fold with_set more (added (a + 1) row) ≡ spread w (a + suc (length row)) s)
-          → fold with_set all (cond b ((a, x) ∷ added (a + 1) row) (added (a + 1) row)) ≡ spread w (a + suc (length row)) s
-      go true h rest =
-          let first : x ≡ w a = is 0 (omega arith) ∙ ap w (omega arith) in
-          rest (with_set all (a, x)) (join_comm all x ∙ ap₂ join first so ∙ sym (spread_step w a s true h))
-      go false h rest = rest all (so ∙ sym (spread_step w a s false h ∙ none_join (spread w a s)))
+      first : x ≡ w a
+      first = is 0 (omega arith) ∙ ap w (omega arith)
 
-pub spread_row : (n : ℕ) (row : List PlaceSet) (set : PlaceSet) → length row ≡ n
-    → fold with_set set (filter (λ p. has set p.0) (zip (range_with_len 0 n) row)) ≡ spread (slice_index row) n set
+      go : (b : Bool) → has s a ≡ b → cond b (join all x) all ≡ spread w (a + 1) s
+      go true h = join_comm all x ∙ ap₂ join first so ∙ sym (spread_step w a s true h)
+      go false h = so ∙ sym (spread_step w a s false h ∙ none_join (spread w a s))
+
+pub spread_row : (n : ℕ) (row : List PlaceSet) (set : PlaceSet) → length row ≡ n → fold (with_set set) set (zip (range_with_len 0 n) row) ≡ spread (slice_index row) n set
 spread_row n row set long =
     let w = slice_index row in
     rw (← long)

@@ -11,10 +11,11 @@ pub(crate) fn jobs_passing<F: Fn(&Holding) -> bool>(holdings: &[Holding], passes
     requires { F.IsAlwaysCallable passes }
     ensures { (test : Holding → Bool) → ((h : _) (b : Bool) → F.post passes h b → b ≡ test h.now) → result ≡ placed (jobs_of test holdings.now) }
 {
-    holdings
-        .iter()
-        .filter(|holding| passes(holding))
-        .fold(PlaceSet::EMPTY, |set, holding| {
+    holdings.iter().fold(PlaceSet::EMPTY, |set, holding| {
+        if passes(holding) {
             set.joined(PlaceSet::only(holding.job))
-        })
+        } else {
+            set
+        }
+    })
 }

@@ -6,14 +6,17 @@ ghost use Rattle.protocol.specs.Places.{has, placed};
 use super::waits::{new_waits, waiting};
 use protocol::{Holding, PlaceSet};
 
-// The set, and all that its members wait for.
+// The set, and all that its members wait for. The test stands in the fold: behind a filter the sixteen steps cost three times as much.
 fn spread_once(sets: &[PlaceSet; 16], set: PlaceSet) -> PlaceSet
     ensures { result ≡ spread (slice_index sets.now) 16 set }
 {
-    (0..16u8)
-        .zip(sets)
-        .filter(|(place, _)| set.has(*place))
-        .fold(set, |all, (_, waits)| all.joined(*waits))
+    (0..16u8).zip(sets).fold(set, |all, (place, waits)| {
+        if set.has(place) {
+            all.joined(*waits)
+        } else {
+            all
+        }
+    })
 }
 
 // All jobs that the set has or waits for, directly or through others: each round adds one of sixteen places or is the last.

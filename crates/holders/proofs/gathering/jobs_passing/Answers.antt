@@ -1,7 +1,8 @@
 use Rattle.std.proofs.Common.{◌≡◌, ◌∙◌, rules, of_calls}
-use Rattle.std.specs.Prelude.{filter, fold}
+use Rattle.std.specs.Prelude.{fold}
 use Rattle.std.proofs.lemmas.Iterator.{YieldsList-from_slice}
-use Rattle.std.proofs.lemmas.Iterator.Consumers.{YieldsList-from_filter, fold_from_yields_List}
+use Rattle.std.proofs.lemmas.Iterator.Consumers.{fold_from_yields_List}
+use borrow.Author.Tests.{tests}
 use Rattle.protocol.specs.Holdings.{jobs_of}
 use Rattle.protocol.specs.Places.{placed}
 use Rattle.holders.proofs.Joins.{none_join}
@@ -11,6 +12,5 @@ use Rattle.holders.proofs.gathering.jobs_passing.Goals as goal
 pub returns : goal.returns
 returns g c = λ test said.
     let hs = c.args.holdings.now in
-    let folded : c.fold.result ≡ fold with_job 0 (filter test hs) =
-    fold_from_yields_List _ with_job _ _ c.fold.ensures.ran (YieldsList-from_filter _ test (YieldsList-from_slice hs cc) c.filter.ensures.closure (λ x r q k. search (rules, of_calls, said))) (λ a x b q k. search rules) in
+    let folded : c.fold.result ≡ fold (with_job test) 0 hs = fold_from_yields_List _ (with_job test) _ _ c.fold.ensures.ran (YieldsList-from_slice hs cc) (λ a x b q k. search (rules, tests, of_calls, said)) in
     folded ∙ jobs_folded test hs 0 ∙ none_join (placed (jobs_of test hs))
