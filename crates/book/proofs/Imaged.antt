@@ -1,9 +1,8 @@
 -- A book after an image.
-use Rattle.std.proofs.Common.{◌≡◌, ℕ, suc, ◌+◌, ◌<◌, ◌≤◌, Bool, true, false, cond, ◌&&◌, ◌||◌, eqb, List, [], ◌∷◌, ◌++◌, map, length, Some, Ok, Err, Option, Result, sym, refl, ap, ◌∙◌, arith}
+use Rattle.std.proofs.Common.{◌≡◌, ℕ, suc, ◌+◌, ◌<◌, ◌≤◌, Bool, true, false, cond, ◌&&◌, ◌||◌, eqb, List, [], ◌∷◌, ◌++◌, map, length, Some, None, Ok, Err, Option, Result, sym, refl, ap, ◌∙◌, arith}
 use Rattle.std.specs.Prelude.{filter}
-use Rattle.std.specs.List.{list_any}
-use Rattle.std.specs.Result.{result_or}
-use Rattle.std.proofs.lemmas.Bool.{false≢true}
+use Rattle.std.specs.List.{AllByRecursion, list_any}
+use Rattle.std.proofs.lemmas.Bool.{false≢true, ltb-false}
 use Rattle.terms.specs.declared.calls.Call.TheVariants.{Image}
 use Rattle.protocol.specs.declared.holdings.Holding.{Holding}
 use Rattle.protocol.specs.declared.jobs.Job.{Job}
@@ -16,9 +15,9 @@ use Rattle.protocol.specs.Step.{answer, refusals, next}
 use Rattle.protocol.specs.declared.refusals.Refusal.{Refusal}
 use Rattle.protocol.specs.declared.refusals.Refusal.TheVariants.{NotOpen}
 use Rattle.terms.specs.Rule.{Rule}
-use Rattle.tables.specs.Items.{Added as Put}
 use Rattle.tables.specs.Within.{Within, count, job_of_holding}
 use Rattle.tables.proofs.Rooms.{within_map}
+use Rattle.book.proofs.Locking.{first_passed}
 
 -- an object that is held has a place among those that the job holds
 pub position_within : (p o : ℕ) (hs : List Holding) → list_any (λ h. holds p o h && opened h.state) hs ≡ true → position p o hs < count job_of_holding p hs
@@ -37,6 +36,12 @@ position_within p o (h ∷ hs) e = go (eqb h.job p) (eqb h.object o) e (position
 pub image_answer : (r : Rule) (m : Model) (p o : ℕ) → answer r m (Image p o) ≡ first (image_refusals m p o)
 unfolding answer refusals
 image_answer r m p o = refl
+
+-- where none is refused there is room for the versions
+pub image_room : (m : Model) (p o : ℕ) → first (image_refusals m p o) ≡ None → length m.versions + length (executions_of p m) ≤ 256
+image_room m p o e =
+    let t : AllByRecursion (λ (t : Bool × Refusal). t.0 ≡ false) (image_refusals m p o) = first_passed (image_refusals m p o) e in
+    ltb-false 256 (length m.versions + length (executions_of p m)) t.1.1.1.1.1.0
 
 pub within_turned : (p o : ℕ) (jobs : List (Option Job)) (hs : List Holding) → Within 8 job_of_holding jobs hs → Within 8 job_of_holding jobs (map (turn p o) hs)
 within_turned p o jobs hs w = within_map 8 job_of_holding jobs hs w (turn p o) (λ h. refl)
@@ -58,14 +63,3 @@ not_found false x e = let q : x ≡ NotOpen = cc in (refl, q)
 pub was_found : (b : Bool) (u : Unit {0}) → ◌≡◌ {A = Result (Unit {0}) Refusal} (Ok u) (cond b (Ok tt) (Err NotOpen)) → b ≡ true
 was_found true u e = refl
 was_found false u e = let z : ◌≡◌ {A = ℕ} 0 1 = cc in absurd (omega arith)
-
--- ---- what became of adding the versions, where there may not be the room
-pub no_room : {V E : Type 0} (before more after : List Version) (r : Result V E) (x y : Refusal) → ◌≡◌ {A = Result V Refusal} (Err y) (result_or r (Err x)) → Put 256 before more after r
-    → (256 < length before + length more) × (after ≡ before) × (y ≡ x)
-no_room before more after (Ok v) x y e put = let z : ◌≡◌ {A = ℕ} 0 1 = cc in absurd (omega arith)
-no_room before more after (Err _) x y e put = let q : y ≡ x = cc in (put.0, put.1, q)
-
-pub had_room : {V E : Type 0} (before more after : List Version) (r : Result V E) (x : Refusal) (v : V) → ◌≡◌ {A = Result V Refusal} (Ok v) (result_or r (Err x)) → Put 256 before more after r
-    → (length before + length more ≤ 256) × (after ≡ before ++ more)
-had_room before more after (Ok w) x v e put = put
-had_room before more after (Err _) x v e put = let z : ◌≡◌ {A = ℕ} 0 1 = cc in absurd (omega arith)

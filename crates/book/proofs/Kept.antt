@@ -1,23 +1,23 @@
--- What is added of a chain that gives a list of pairs.
-use Rattle.std.proofs.Common.{ℕ, ◌≡◌, Bool, true, false, cond, List, [], ◌∷◌, ◌++◌, map, length, Some, None, Option, Ok, Err, Result, refl, sym, ap, ◌∙◌, subst, arith}
-use Rattle.std.specs.Prelude.{flat_map, filter}
+-- What is added of a chain, and the pairs of a job's executions, one execution after another.
+use Rattle.std.proofs.Common.{ℕ, ◌≡◌, ◌+◌, ◌<◌, ◌≤◌, Bool, true, false, cond, eqb, List, [], ◌∷◌, ◌++◌, map, length, get_or, drop, Some, None, Option, Ok, Err, Result, refl, sym, ap, ◌∙◌, subst, arith}
+use Rattle.std.specs.Prelude.{filter}
 use Rattle.std.specs.Iterator.{DrainsIf}
 use Rattle.std.specs.List.{filter_map, cons_option}
 use Rattle.std.specs.Result.{IsOk}
 use Rattle.std.proofs.lemmas.Iterator.{YieldsList, items_from_drains}
 use Rattle.std.proofs.lemmas.Iterator.Consumers.{YieldsList-so_far}
-use Rattle.std.proofs.lemmas.List.{length-append, length-map, length-take, map-id}
+use Rattle.std.proofs.lemmas.List.{at_drop_more, at_drop_all, append_assoc, append-nil, length-append, length-map, length-take, map-id}
 use Rattle.protocol.specs.declared.assumptions.Execution.{Execution}
 use Rattle.protocol.specs.declared.assumptions.Offer.{Offer}
+use Rattle.protocol.specs.Model.{names}
 use Rattle.protocol.specs.Pairing.{is_kept, pairs}
-use Rattle.std.proofs.lemmas.List.Elements.{filter_map-append}
 use Rattle.protocol.specs.declared.refusals.Refusal.{Refusal}
 use Rattle.tables.specs.Items.{items}
 use Rattle.book.specs.declared.request.Found.{Found}
 use Rattle.book.specs.Meeting.{Added}
 
 -- all of the list is added, or it would be too much
-pub adds_all : {S : Type 0} {gives : S → Option Execution → S → Type 0} {them : S} {all : List Execution} (before after : Found) (r : Result (Unit {0}) Refusal)
+adds_all : {S : Type 0} {gives : S → Option Execution → S → Type 0} {them : S} {all : List Execution} (before after : Found) (r : Result (Unit {0}) Refusal)
     → (came : List Execution) × DrainsIf gives (IsOk r) them came × Added before came after r → YieldsList gives (λ x. x) them all → Added before all after r
 adds_all before after (Ok u) d road =
     let came = d.0 in
@@ -30,21 +30,59 @@ adds_all {all = all} before after (Err e) d road =
       within = d.2.within;
     }
 
--- of each execution with each offer the pair, where it is kept
-pub pairs_of : (robustness : ℕ) (f : Execution → Offer → Execution) (os : List Offer) (es : List Execution)
-    → filter_map (λ (p : Execution × Offer). cond (is_kept robustness (f p.0 p.1)) (Some (f p.0 p.1)) None) (flat_map (λ e. map (λ o. (e, o)) os) es) ≡ pairs robustness f os es
-unfolding pairs
-pairs_of n f os [] = refl
-pairs_of n f os (e ∷ es) =
-    let h : Execution × Offer → Option Execution = λ p. cond (is_kept n (f p.0 p.1)) (Some (f p.0 p.1)) None in
-    filter_map-append h (map (λ o. (e, o)) os) (flat_map (λ e. map (λ o. (e, o)) os) es)
-    ∙ ap (λ l. l ++ filter_map h (flat_map (λ e. map (λ o. (e, o)) os) es)) (of_one os)
-    ∙ ap (λ l. filter (is_kept n) (map (f e) os) ++ l) (pairs_of n f os es)
+-- what is kept of what is made of each
+kept_of : {X Y : Type 0} (t : Y → Bool) (f : X → Y) (xs : List X) → filter_map (λ x. cond (t (f x)) (Some (f x)) None) xs ≡ filter t (map f xs)
+kept_of t f [] = refl
+kept_of {Y = Y} t f (x ∷ xs) = ap (cons_option (cond (t (f x)) (Some (f x)) None)) (kept_of t f xs) ∙ put (t (f x)) (f x) (filter t (map f xs))
   where
-    of_one : (os : List Offer) → filter_map (λ (p : Execution × Offer). cond (is_kept n (f p.0 p.1)) (Some (f p.0 p.1)) None) (map (λ o. (e, o)) os) ≡ filter (is_kept n) (map (f e) os)
-    of_one [] = refl
-    of_one (o ∷ os) = ap (cons_option (cond (is_kept n (f e o)) (Some (f e o)) None)) (of_one os) ∙ put (is_kept n (f e o)) (f e o) (filter (is_kept n) (map (f e) os))
-      where
-        put : (b : Bool) (x : Execution) (xs : List Execution) → cons_option (cond b (Some x) None) xs ≡ cond b (x ∷ xs) xs
-        put true x xs = refl
-        put false x xs = refl
+    put : (b : Bool) (y : Y) (ys : List Y) → cons_option (cond b (Some y) None) ys ≡ cond b (y ∷ ys) ys
+    put true y ys = refl
+    put false y ys = refl
+
+-- all that is kept is added, or it would be too much
+pub adds_kept : {S X : Type 0} {gives : S → Option Execution → S → Type 0} {them : S} (t : Execution → Bool) (f : X → Execution) (xs : List X) (before after : Found) (r : Result (Unit {0}) Refusal)
+    → (came : List Execution) × DrainsIf gives (IsOk r) them came × Added before came after r → YieldsList gives (λ x. x) them (filter_map (λ x. cond (t (f x)) (Some (f x)) None) xs) → Added before (filter t (map f xs)) after r
+adds_kept t f xs before after r d road = subst (λ l. Added before l after r) (kept_of t f xs) (adds_all before after r d road)
+
+module _ (r : ℕ) (f : Execution → Offer → Execution) (os : List Offer) (p : ℕ) where
+  -- of an execution's pairs those that are kept
+  abbrev pub kept : Execution → List Execution
+  kept e = filter (is_kept r) (map (f e) os)
+
+  abbrev pub all_of : List Execution → List Execution
+  all_of es = pairs r f os (filter (names p) es)
+
+  none_of : all_of [] ≡ []
+  unfolding pairs
+  none_of = refl
+
+  first_of : (b : Bool) (e : Execution) (es : List Execution) → pairs r f os (cond b (e ∷ filter (names p) es) (filter (names p) es)) ≡ cond b (kept e) [] ++ all_of es
+  unfolding pairs
+  first_of true e es = refl
+  first_of false e es = refl
+
+  module _ (es : List Execution) (i : ℕ) where
+    -- the i-th execution's come first, where it is the job's
+    first_kept : (b : Bool) (e : Execution) → i < length es → e ≡ get_or es i e → eqb e.job p ≡ b → all_of (drop i es) ≡ cond b (kept e) [] ++ all_of (drop (i + 1) es)
+    first_kept b e l is own =
+        at_drop_more all_of es i e l ∙ ap (λ x. all_of (x ∷ drop (i + 1) es)) (sym is)
+        ∙ ap (λ b. pairs r f os (cond b (e ∷ filter (names p) (drop (i + 1) es)) (filter (names p) (drop (i + 1) es)))) own ∙ first_of b e (drop (i + 1) es)
+
+    module _ (before now : List Execution) (adds : now ++ all_of (drop i es) ≡ before ++ all_of es) where
+      -- they are added
+      pub more : (e : Execution) (after : List Execution) → i < length es → e ≡ get_or es i e → eqb e.job p ≡ true → after ≡ now ++ kept e → after ++ all_of (drop (i + 1) es) ≡ before ++ all_of es
+      more e after l is own added =
+          ap (λ l. l ++ all_of (drop (i + 1) es)) added ∙ append_assoc now (kept e) (all_of (drop (i + 1) es)) ∙ ap (λ l. now ++ l) (sym (first_kept true e l is own)) ∙ adds
+
+      -- it is another job's
+      pub passed : (e : Execution) → i < length es → e ≡ get_or es i e → eqb e.job p ≡ false → now ++ all_of (drop (i + 1) es) ≡ before ++ all_of es
+      passed e l is other = ap (λ l. now ++ l) (sym (first_kept false e l is other)) ∙ adds
+
+      -- they would be too many
+      pub over : (e : Execution) (limit : ℕ) → i < length es → e ≡ get_or es i e → eqb e.job p ≡ true → limit < length (now ++ kept e) → limit < length (before ++ all_of es)
+      over e limit l is own much =
+          omega (arith, much, length-append now (kept e), ap length adds, length-append now (all_of (drop i es)), ap length (first_kept true e l is own), length-append (kept e) (all_of (drop (i + 1) es)))
+
+      -- there are no more
+      pub all_added : length es ≤ i → now ≡ before ++ all_of es
+      all_added l = sym (append-nil now) ∙ ap (λ l. now ++ l) (sym (at_drop_all all_of es i l ∙ none_of)) ∙ adds

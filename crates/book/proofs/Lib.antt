@@ -1,3 +1,4 @@
+pub mod Absent
 pub mod Adding
 pub mod Gathered
 pub mod Kept
@@ -12,6 +13,7 @@ pub mod Locked
 pub mod Ended
 pub mod Ringless
 pub mod Chains
+pub mod Counted
 pub mod Imaged
 pub mod Steps
 pub mod Told

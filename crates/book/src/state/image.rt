@@ -1,26 +1,30 @@
 // A job's open holding is turned, and each of its executions makes a version.
-ghost use Rattle.std.specs.Prelude.{[], ◌++◌};
+ghost use Rattle.std.specs.Prelude.{[]};
 ghost use Rattle.terms.specs.declared.calls.Call.TheVariants.{Image};
-ghost use Rattle.protocol.specs.Image.{image_barred};
-ghost use Rattle.protocol.specs.Lock.{no_live_job};
+ghost use Rattle.protocol.specs.Image.{image_refusals};
 ghost use Rattle.book.specs.Tests.{FindsJob};
 ghost use Rattle.book.specs.View.{view, Follows};
 
 use super::super::making::Making;
 use super::super::place::Place;
+use super::super::searching::count_of;
 use super::Book;
 use holders::{find_open, position};
 use protocol::{Job, Refusal};
 use terms::{JobRule, Store};
 
 impl Book {
-    // The job, where it may image the object if there is room for what it makes.
+    // The job, where it may image the object. The room is tested here, before anything is made, so that a refused image asks the rule for nothing.
     fn may_image<S: Store>(&self, store: &S, place: Place, object: u64) -> Result<Job, Refusal>
-        ensures { FindsJob (no_live_job (view (S.Store.values store.now) self.now) place.number ++ image_barred (view (S.Store.values store.now) self.now) place.number object) (view [] self.now) place.number result }
+        ensures { FindsJob (image_refusals (view (S.Store.values store.now) self.now) place.number object) (view [] self.now) place.number result }
     {
         let job = self.live_job(place)?;
         store.read(object).ok_or(Refusal::NoSuchObject)?;
         find_open(self.holdings.in_use(), place.number, object)?;
+        let count = count_of(self.executions.in_use(), place);
+        if count > 256 - self.versions.len() {
+            return Err(Refusal::TooManyVersions);
+        }
         Ok(job)
     }
 
@@ -45,9 +49,7 @@ impl Book {
             met,
         };
         let made = making.versions(self.executions.in_use());
-        self.versions
-            .extend(made.in_use())
-            .or(Err(Refusal::TooManyVersions))?;
+        self.versions.extend(made.in_use()).unwrap();
         self.holdings.turn(here.number, object);
         Ok(())
     }

@@ -1,4 +1,4 @@
-// Questions change nothing, and what is not there answers none.
+// Questions change nothing, and what is not there answers none. No record names a place above 15, so at one no record is gone through.
 ghost use Rattle.std.specs.Prelude.{◌≡◌, [], map, length, filter};
 ghost use Rattle.protocol.specs.Holdings.{held_by};
 ghost use Rattle.protocol.specs.Model.{job_at, holding_count, executions_of};
@@ -7,6 +7,7 @@ ghost use Rattle.std.specs.List.{slice_get};
 ghost use Rattle.book.specs.Questions.{made_version, object_versions};
 ghost use Rattle.book.specs.View.{view};
 
+use super::super::place::Place;
 use super::super::searching::{count_of, nth_of};
 use super::Book;
 use protocol::{Assumption, Execution, Holding, Job, Version};
@@ -46,28 +47,30 @@ impl Book {
     pub fn holding_count(&self, place: u64) -> usize
         ensures { result ≡ holding_count (view [] self.now) place }
     {
-        count_of(self.holdings.in_use(), place)
+        Place::try_from(place).map_or(0, |here| count_of(self.holdings.in_use(), here))
     }
 
     // The n-th holding of a job, in the order of locking, from 0.
     pub fn holding(&self, place: u64, n: u64) -> Option<Holding>
         ensures { result ≡ slice_get (filter (held_by place) (view [] self.now).holdings) n }
     {
-        nth_of(self.holdings.in_use(), place, n)
+        let here = Place::try_from(place).ok()?;
+        nth_of(self.holdings.in_use(), here, n)
     }
 
     // How many executions a job has.
     pub fn execution_count(&self, place: u64) -> usize
         ensures { result ≡ length (executions_of place (view [] self.now)) }
     {
-        count_of(self.executions.in_use(), place)
+        Place::try_from(place).map_or(0, |here| count_of(self.executions.in_use(), here))
     }
 
     // The n-th execution of a job, from 0.
     pub fn execution(&self, place: u64, n: u64) -> Option<Execution>
         ensures { result ≡ slice_get (executions_of place (view [] self.now)) n }
     {
-        nth_of(self.executions.in_use(), place, n)
+        let here = Place::try_from(place).ok()?;
+        nth_of(self.executions.in_use(), here, n)
     }
 
     // The n-th version of an object, from 0, which is the stored value.
