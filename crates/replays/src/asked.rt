@@ -6,7 +6,6 @@ ghost use Rattle.script.specs.Outputs.{answer_bytes};
 ghost use Rattle.replays.specs.Output.{Appended, calls_in, lines_from};
 ghost use Rattle.replays.specs.Merged.{merged};
 
-use super::lines::write_line;
 use protocol::Refusal;
 use script::{Fault, OutputLine, Setup};
 use std::alloc::{AllocError, Global};
@@ -55,7 +54,7 @@ impl Asked<'_> {
                 Err(fault) => u8::from(*fault),
             };
             let number = i as u32 + 2;
-            write_line(out, OutputLine::Answer { number, answer })?;
+            OutputLine::Answer { number, answer }.append_to(out)?;
         }
         Ok(())
     }

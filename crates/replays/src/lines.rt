@@ -1,21 +1,13 @@
 // The lines of the output.
 ghost use Rattle.std.specs.Prelude.{[], OnOk};
 ghost use Rattle.book.specs.View.{view};
-ghost use Rattle.script.specs.Outputs.{line_bytes, object_bytes};
+ghost use Rattle.script.specs.Outputs.{object_bytes};
 ghost use Rattle.replays.specs.Output.{Appended, lines_from, place_bytes};
 
 use book::Book;
 use script::OutputLine;
 use std::alloc::AllocError;
-use std::fmt::Write;
 use terms::Store;
-
-// One line more.
-pub(crate) fn write_line(out: &mut String, line: OutputLine) -> Result<(), AllocError>
-    ensures { OnOk result (Appended out.old out.new (line_bytes line)) }
-{
-    write!(out, "{line}")
-}
 
 // The value of each object.
 pub(crate) fn write_objects<S: Store>(out: &mut String, store: &S) -> Result<(), AllocError>
@@ -24,7 +16,7 @@ pub(crate) fn write_objects<S: Store>(out: &mut String, store: &S) -> Result<(),
     for object in 0..store.len() {
         let value = store.read(object).unwrap();
         let object = object as u16;
-        write_line(out, OutputLine::Object { object, value })?;
+        OutputLine::Object { object, value }.append_to(out)?;
     }
     Ok(())
 }
@@ -36,7 +28,7 @@ pub(crate) fn write_jobs(out: &mut String, book: &Book) -> Result<(), AllocError
     for place in 0..16u8 {
         if book.job(u64::from(place)).is_some() {
             let executions = book.execution_count(u64::from(place)) as u8;
-            write_line(out, OutputLine::Job { place, executions })?;
+            OutputLine::Job { place, executions }.append_to(out)?;
         }
     }
     Ok(())

@@ -1,5 +1,5 @@
 // The lines of a replay's output, each with the line feed that ends it.
-ghost use Rattle.std.specs.Prelude.{◌≡◌, ◌≤◌, length, IfOk, Some, string_bytes};
+ghost use Rattle.std.specs.Prelude.{◌≡◌, ◌+◌, ◌≤◌, ◌++◌, length, IfOk, OnOk, Some, string_bytes};
 ghost use Rattle.script.specs.Outputs.{line_bytes, FitsTypes};
 
 use std::alloc::{AllocError, Global};
@@ -28,6 +28,15 @@ impl fmt::Display for OutputLine {
 }
 
 impl OutputLine {
+    // Adds the line to a text.
+    pub fn append_to(self, out: &mut String) -> Result<(), AllocError>
+        ensures bytes { OnOk result (string_bytes out.new ≡ string_bytes out.old ++ line_bytes self) }
+        ensures short { OnOk result (length (string_bytes out.new) ≤ length (string_bytes out.old) + 32) }
+    {
+        self.fits();
+        write!(out, "{self}")
+    }
+
     // The line as a text.
     pub fn text(self, heap: Global) -> Result<String, AllocError>
         ensures bytes { IfOk result (λ s. string_bytes s ≡ line_bytes self) }

@@ -134,6 +134,9 @@ mod tests {
             executions: 16,
         };
         assert_eq!(rt; job.text(heap)?.as_str(), "J,15,16\n");
+        let mut all = answer.text(heap)?;
+        job.append_to(&mut all)?;
+        assert_eq!(rt; all.as_str(), "8,18\nJ,15,16\n");
         Ok(())
     }
 }

@@ -6,7 +6,7 @@ use Rattle.replays.specs.Output.{lines_from, place_bytes}
 use Rattle.replays.proofs.Telling.{with_job, without_job}
 use Rattle.replays.proofs.Writing.{line_more, lines_done}
 use Rattle.replays.proofs.lines.write_jobs.Goals as goal
-use Rattle.replays.proofs.lines.write_jobs.Goals.{then-is_some+in_ok-write_line, else-is_some}
+use Rattle.replays.proofs.lines.write_jobs.Goals.{then-is_some+in_ok-append_to, else-is_some}
 
 pub loop-place-preserved : goal.loop-place-preserved
 loop-place-preserved c =
@@ -17,10 +17,10 @@ loop-place-preserved c =
     let whole = string_bytes c.args.out.now ++ lines_from (place_bytes es) 0 b.jobs in
     let there : p < length b.jobs = omega (arith, b.places, c.loop-place-test.true) in
     elim c.if-is_some.branch [
-      | then-is_some+in_ok-write_line w ↦
+      | then-is_some+in_ok-append_to w ↦
           rw w.out-is (
-          line_more (place_bytes es) p b.jobs p now whole c.loop-place.invariant None (string_bytes w.write_line.new.out) there
-          (w.in_ok-write_line.ensures
+          line_more (place_bytes es) p b.jobs p now whole c.loop-place.invariant None (string_bytes w.append_to.new.out) there
+          (w.in_ok-append_to.ensures.bytes
           ∙ ap (λ l. now ++ l)
           (with_job es p _ (get_or b.jobs p None) (sym (c.is_some.ensures ∙ ap is_some (c.job.ensures ∙ ap (λ q. get_or b.jobs q None) c.from.ensures)) ∙ w.if-is_some.true)
           (w.execution_count-executions.ensures ∙ ap (λ q. length (executions_of q (view [] b))) w.from-then-is_some.ensures)))

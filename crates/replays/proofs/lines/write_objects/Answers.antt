@@ -13,8 +13,8 @@ loop-object-preserved g c =
     let value = c.unwrap-value.result in
     let there : o < length xs = omega (arith, c.loop-object-test.true, c.len-object-end.ensures.counts) in
     let small : length xs ≤ 65536 = g.S.Store.short c.args.store.now in
-    line_more object_bytes o xs o now whole c.loop-object.invariant 0 (string_bytes c.write_line.new.out) there
-    (c.in_ok-write_line.ensures ∙ ap (λ l. now ++ l) (object_line_is _ o value (get_or xs o 0) (omega (arith, small)) (value_there xs o value c.read.result there c.read.ensures.reads c.unwrap-value.ensures)))
+    line_more object_bytes o xs o now whole c.loop-object.invariant 0 (string_bytes c.append_to.new.out) there
+    (c.in_ok-append_to.ensures.bytes ∙ ap (λ l. now ++ l) (object_line_is _ o value (get_or xs o 0) (omega (arith, small)) (value_there xs o value c.read.result there c.read.ensures.reads c.unwrap-value.ensures)))
 
 pub returns : goal.returns
 returns g c =

@@ -14,11 +14,11 @@ loop-i-preserved c =
           rw w.left-is (
           line_of_call rs c.loop-i.i _ c.loop-i-test.true c.loop-i.left.rest.now now _ c.loop-i.invariant _ _ w.unwrap_or.result _ w.in-Ok.is
           (let n = next_answer c.loop-i.left w.next.new.self w.next.result w.next.ensures.steps in (w.unwrap_or.ensures ∙ ap (λ r. unwrap_or r (Ok tt)) w.copied.ensures ∙ n.0, n.1))
-          (c.in_ok-write_line.ensures ∙ ap (λ a. now ++ answer_bytes (c.loop-i.i + 2) a) (w.answer-is ∙ w.answer_number-answer.ensures))
+          (c.in_ok-append_to.ensures.bytes ∙ ap (λ a. now ++ answer_bytes (c.loop-i.i + 2) a) (w.answer-is ∙ w.answer_number-answer.ensures))
           )
       | in-Err w ↦
           rw w.left-is (line_of_fault rs c.loop-i.i _ c.loop-i-test.true c.loop-i.left.rest.now now _ c.loop-i.invariant _ _ w.in-Err.is
-          (c.in_ok-write_line.ensures ∙ ap (λ a. now ++ answer_bytes (c.loop-i.i + 2) a) (w.answer-is ∙ w.from-answer.ensures)))
+          (c.in_ok-append_to.ensures.bytes ∙ ap (λ a. now ++ answer_bytes (c.loop-i.i + 2) a) (w.answer-is ∙ w.from-answer.ensures)))
     ]
 
 pub returns : goal.returns
