@@ -9,6 +9,7 @@ use Rattle.std.proofs.lemmas.Iterator.Consumers.{YieldsList-so_far}
 use Rattle.std.proofs.lemmas.List.{at_drop_more, at_drop_all, append_assoc, append-nil, length-append, length-map, length-take, map-id}
 use Rattle.protocol.specs.declared.assumptions.Execution.{Execution}
 use Rattle.protocol.specs.declared.assumptions.Offer.{Offer}
+use Rattle.protocol.specs.Assumptions.{assume}
 use Rattle.protocol.specs.Model.{names}
 use Rattle.protocol.specs.Pairing.{is_kept, pairs}
 use Rattle.protocol.specs.declared.refusals.Refusal.{Refusal}
@@ -44,6 +45,10 @@ pub adds_kept : {S X : Type 0} {gives : S → Option Execution → S → Type 0}
     → (came : List Execution) × DrainsIf gives (IsOk r) them came × Added before came after r → YieldsList gives (λ x. x) them (filter_map (λ x. cond (t (f x)) (Some (f x)) None) xs) → Added before (filter t (map f xs)) after r
 adds_kept t f xs before after r d road = subst (λ l. Added before l after r) (kept_of t f xs) (adds_all before after r d road)
 
+-- what a read past the end of a list of executions gives
+abbrev pub past_all : Execution
+past_all = record { job = 0; assumes = assume 0 0; work = 0; tally = 0; met = [] }
+
 module _ (r : ℕ) (f : Execution → Offer → Execution) (os : List Offer) (p : ℕ) where
   -- of an execution's pairs those that are kept
   abbrev pub kept : Execution → List Execution
@@ -62,26 +67,29 @@ module _ (r : ℕ) (f : Execution → Offer → Execution) (os : List Offer) (p 
   first_of false e es = refl
 
   module _ (es : List Execution) (i : ℕ) where
+    abbrev e : Execution
+    e = get_or es i past_all
+
     -- the i-th execution's come first, where it is the job's
-    first_kept : (b : Bool) (e : Execution) → i < length es → e ≡ get_or es i e → eqb e.job p ≡ b → all_of (drop i es) ≡ cond b (kept e) [] ++ all_of (drop (i + 1) es)
-    first_kept b e l is own =
-        at_drop_more all_of es i e l ∙ ap (λ x. all_of (x ∷ drop (i + 1) es)) (sym is)
+    first_kept : (b : Bool) → i < length es → eqb e.job p ≡ b → all_of (drop i es) ≡ cond b (kept e) [] ++ all_of (drop (i + 1) es)
+    first_kept b l own =
+        at_drop_more all_of es i past_all l
         ∙ ap (λ b. pairs r f os (cond b (e ∷ filter (names p) (drop (i + 1) es)) (filter (names p) (drop (i + 1) es)))) own ∙ first_of b e (drop (i + 1) es)
 
     module _ (before now : List Execution) (adds : now ++ all_of (drop i es) ≡ before ++ all_of es) where
       -- they are added
-      pub more : (e : Execution) (after : List Execution) → i < length es → e ≡ get_or es i e → eqb e.job p ≡ true → after ≡ now ++ kept e → after ++ all_of (drop (i + 1) es) ≡ before ++ all_of es
-      more e after l is own added =
-          ap (λ l. l ++ all_of (drop (i + 1) es)) added ∙ append_assoc now (kept e) (all_of (drop (i + 1) es)) ∙ ap (λ l. now ++ l) (sym (first_kept true e l is own)) ∙ adds
+      pub more : (after : List Execution) → i < length es → eqb (get_or es i past_all).job p ≡ true → after ≡ now ++ kept (get_or es i past_all) → after ++ all_of (drop (i + 1) es) ≡ before ++ all_of es
+      more after l own added =
+          ap (λ l. l ++ all_of (drop (i + 1) es)) added ∙ append_assoc now (kept e) (all_of (drop (i + 1) es)) ∙ ap (λ l. now ++ l) (sym (first_kept true l own)) ∙ adds
 
       -- it is another job's
-      pub passed : (e : Execution) → i < length es → e ≡ get_or es i e → eqb e.job p ≡ false → now ++ all_of (drop (i + 1) es) ≡ before ++ all_of es
-      passed e l is other = ap (λ l. now ++ l) (sym (first_kept false e l is other)) ∙ adds
+      pub passed : i < length es → eqb (get_or es i past_all).job p ≡ false → now ++ all_of (drop (i + 1) es) ≡ before ++ all_of es
+      passed l other = ap (λ l. now ++ l) (sym (first_kept false l other)) ∙ adds
 
       -- they would be too many
-      pub over : (e : Execution) (limit : ℕ) → i < length es → e ≡ get_or es i e → eqb e.job p ≡ true → limit < length (now ++ kept e) → limit < length (before ++ all_of es)
-      over e limit l is own much =
-          omega (arith, much, length-append now (kept e), ap length adds, length-append now (all_of (drop i es)), ap length (first_kept true e l is own), length-append (kept e) (all_of (drop (i + 1) es)))
+      pub over : (limit : ℕ) → i < length es → eqb (get_or es i past_all).job p ≡ true → limit < length (now ++ kept (get_or es i past_all)) → limit < length (before ++ all_of es)
+      over limit l own much =
+          omega (arith, much, length-append now (kept e), ap length adds, length-append now (all_of (drop i es)), ap length (first_kept true l own), length-append (kept e) (all_of (drop (i + 1) es)))
 
       -- there are no more
       pub all_added : length es ≤ i → now ≡ before ++ all_of es

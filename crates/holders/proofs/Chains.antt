@@ -12,16 +12,19 @@ use Rattle.holders.proofs.Joins.{join_assoc, join_none, none_join, placed_join, 
 
 -- the set, with the job of a holding that passes the test
 abbrev pub with_job : (Holding → Bool) → PlaceSet → Holding → PlaceSet
-with_job t set h = cond (t h) (join set (placed (single h.job))) set
+with_job t set h = cond (t h) (record { mask = join set.mask (placed (single h.job)) }) set
 
-pub jobs_folded : (t : Holding → Bool) (hs : List Holding) (set : PlaceSet) → fold (with_job t) set hs ≡ join set (placed (jobs_of t hs))
+pub jobs_folded : (t : Holding → Bool) (hs : List Holding) (set : PlaceSet) → (fold (with_job t) set hs).mask ≡ join set.mask (placed (jobs_of t hs))
 unfolding jobs_of
-jobs_folded t [] set = sym (ap (join set) placed_zero ∙ join_none set)
+jobs_folded t [] set = sym (ap (join set.mask) placed_zero ∙ join_none set.mask)
 jobs_folded t (h ∷ hs) set = jobs_folded t hs (with_job t set h) ∙ go (t h)
   where
-    go : (b : Bool) → join (cond b (join set (placed (single h.job))) set) (placed (jobs_of t hs)) ≡ join set (placed (join (cond b (single h.job) 0) (jobs_of t hs)))
-    go true = join_assoc set (placed (single h.job)) (placed (jobs_of t hs)) ∙ ap (join set) (sym (placed_join (single h.job) (jobs_of t hs)))
-    go false = ap (λ n. join set (placed n)) (sym (none_join (jobs_of t hs)))
+    more : PlaceSet
+    more = record { mask = join set.mask (placed (single h.job)) }
+
+    go : (b : Bool) → join (cond b more set).mask (placed (jobs_of t hs)) ≡ join set.mask (placed (join (cond b (single h.job) 0) (jobs_of t hs)))
+    go true = join_assoc set.mask (placed (single h.job)) (placed (jobs_of t hs)) ∙ ap (join set.mask) (sym (placed_join (single h.job) (jobs_of t hs)))
+    go false = ap (λ n. join set.mask (placed n)) (sym (none_join (jobs_of t hs)))
 
 -- where object o stands is how many of the job's objects stand before it
 pub position_counted : (p o : ℕ) (hs : List Holding) → length (take_while (λ h. not (eqb h.object o)) (filter (held_by p) hs)) ≡ position p o hs

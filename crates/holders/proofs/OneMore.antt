@@ -1,6 +1,6 @@
 -- One more holding: its job waits for those in its way besides, and no other job for more.
 use Rattle.std.proofs.Common.{◌≡◌, ℕ, zero, suc, ◌+◌, ◌<◌, ◌≤◌, Bool, true, false, cond, not, ◌&&◌, ◌||◌, eqb, List, [], ◌∷◌, ◌++◌, length, get_or, take, drop, set, replicate, sym, refl, ap, ◌∙◌, ap₂, inl, inr, arith}
-use Rattle.std.specs.Prelude.{filter, fold, slice_index}
+use Rattle.std.specs.Prelude.{filter, fold}
 use Rattle.std.specs.List.{list_any, enumerate_from}
 use Rattle.std.proofs.lemmas.List.{take_more, take_all, drop_all, at_drop_more, length-set, length-replicate, get_or-replicate, get_or-set_same, get_or-set_other}
 use Rattle.std.proofs.lemmas.List.Folds.{list_any-append}
@@ -11,6 +11,7 @@ use Rattle.protocol.specs.declared.places.PlaceSet.{PlaceSet}
 use Rattle.protocol.specs.Holdings.{waits, new_waits, jobs_of, clash}
 use Rattle.protocol.specs.Places.{single, join, placed}
 use Rattle.protocol.specs.Empty.{no_holding}
+use Rattle.holders.specs.Sets.{nobody, mask_at}
 use Rattle.holders.proofs.Joins.{join_none, none_join, join_self, join_across, placed_join, placed_zero, placed_cond}
 use Rattle.holders.proofs.Sets.{blocks, waits_none, waits_more}
 
@@ -86,14 +87,14 @@ module _ (p : ℕ) (hs : List Holding) where
   abbrev pub own : ℕ × Holding → Bool
   own x = eqb x.1.job p
 
-  abbrev pub with_own : ℕ → ℕ × Holding → ℕ
-  with_own set x = join set (placed (new_waits (take x.0 hs) x.1))
+  abbrev pub with_own : PlaceSet → ℕ × Holding → PlaceSet
+  with_own set x = record { mask = join set.mask (placed (new_waits (take x.0 hs) x.1)) }
 
-  folded_from : (n i set : ℕ) → i + n ≡ length hs → set ≡ placed (waits (take i hs) p) → fold with_own set (filter own (enumerate_from i (drop i hs))) ≡ placed (waits hs p)
+  folded_from : (n i : ℕ) (set : PlaceSet) → i + n ≡ length hs → set.mask ≡ placed (waits (take i hs) p) → (fold with_own set (filter own (enumerate_from i (drop i hs)))).mask ≡ placed (waits hs p)
   folded_from zero i set e inv =
-      ap (λ l. fold with_own set (filter own (enumerate_from i l))) (drop_all i hs (omega arith)) ∙ inv ∙ ap (λ gs. placed (waits gs p)) (take_all i hs (omega arith))
+      ap (λ l. (fold with_own set (filter own (enumerate_from i l))).mask) (drop_all i hs (omega arith)) ∙ inv ∙ ap (λ gs. placed (waits gs p)) (take_all i hs (omega arith))
   folded_from (suc n) i set e inv =
-      at_drop_more (λ l. fold with_own set (filter own (enumerate_from i l))) hs i no_holding l ∙ go (eqb h.job p) refl (λ s q. folded_from n (i + 1) s (omega arith) q)
+      at_drop_more (λ l. (fold with_own set (filter own (enumerate_from i l))).mask) hs i no_holding l ∙ go (eqb h.job p) refl (λ s q. folded_from n (i + 1) s (omega arith) q)
     where
       l : i < length hs
       l = omega arith
@@ -104,45 +105,45 @@ module _ (p : ℕ) (hs : List Holding) where
       rest : List (ℕ × Holding)
       rest = filter own (enumerate_from (i + 1) (drop (i + 1) hs))
 
-      go : (b : Bool) → eqb h.job p ≡ b → ((s : ℕ) → s ≡ placed (waits (take (i + 1) hs) p) → fold with_own s rest ≡ placed (waits hs p)) → fold with_own set (cond b ((i, h) ∷ rest) rest) ≡ placed (waits hs p)
-      go true t more = more (join set (placed (new_waits (take i hs) h))) (waits_own p hs i l set inv no_holding (eqb-true h.job p t))
-      go false t more = more set (waits_other p hs i l set inv no_holding (eqb-false h.job p t))
+      go : (b : Bool) → eqb h.job p ≡ b → ((s : PlaceSet) → s.mask ≡ placed (waits (take (i + 1) hs) p) → (fold with_own s rest).mask ≡ placed (waits hs p)) → (fold with_own set (cond b ((i, h) ∷ rest) rest)).mask ≡ placed (waits hs p)
+      go true t more = more (with_own set (i, h)) (waits_own p hs i l set.mask inv no_holding (eqb-true h.job p t))
+      go false t more = more set (waits_other p hs i l set.mask inv no_holding (eqb-false h.job p t))
 
-  pub waits_folded : fold with_own 0 (filter own (enumerate_from 0 hs)) ≡ placed (waits hs p)
-  waits_folded = folded_from (length hs) 0 0 (omega arith) (sym (ap placed (waits_none p) ∙ placed_zero))
+  pub waits_folded : (fold with_own nobody (filter own (enumerate_from 0 hs))).mask ≡ placed (waits hs p)
+  waits_folded = folded_from (length hs) 0 nobody (omega arith) (sym (ap placed (waits_none p) ∙ placed_zero))
 
 -- ---- the sets of all places
 -- the p-th set has what job p waits for by the first i holdings
 pub record Waiting (hs : List Holding) (sets : List PlaceSet) (i : ℕ) : Type 0 where
   pub long : length sets ≡ 16
-  pub told : (p : ℕ) → p < 16 → slice_index sets p ≡ placed (waits (take i hs) p)
+  pub told : (p : ℕ) → p < 16 → mask_at sets p ≡ placed (waits (take i hs) p)
 
-pub waiting_none : (hs : List Holding) → Waiting hs (replicate 16 0) 0
+pub waiting_none : (hs : List Holding) → Waiting hs (replicate 16 nobody) 0
 waiting_none hs = record {
-  long = length-replicate {A = PlaceSet} 16 0;
-  told = λ p l. get_or-replicate {A = PlaceSet} 16 p 0 0 l ∙ sym (ap placed (waits_none p) ∙ placed_zero);
+  long = length-replicate 16 nobody;
+  told = λ p l. ap (λ (s : PlaceSet). s.mask) (get_or-replicate 16 p nobody nobody l) ∙ sym (ap placed (waits_none p) ∙ placed_zero);
 }
 
 module _ (hs : List Holding) (sets : List PlaceSet) (i : ℕ) (l : i < length hs) (inv : Waiting hs sets i) where
   abbrev h : Holding
   h = get_or hs i no_holding
 
-  other : (p : ℕ) → p < 16 → (h.job ≡ p → ⊥) → slice_index sets p ≡ placed (waits (take (i + 1) hs) p)
-  other p m ne = waits_other p hs i l (slice_index sets p) (inv.told p m) no_holding ne
+  other : (p : ℕ) → p < 16 → (h.job ≡ p → ⊥) → mask_at sets p ≡ placed (waits (take (i + 1) hs) p)
+  other p m ne = waits_other p hs i l (mask_at sets p) (inv.told p m) no_holding ne
 
   pub waiting_skip : 16 ≤ (get_or hs i no_holding).job → Waiting hs sets (i + 1)
   waiting_skip far = record { long = inv.long; told = λ p m. other p m (λ e. omega arith) }
 
   pub waiting_more : (new : PlaceSet) → (get_or hs i no_holding).job < 16
-      → new ≡ join (slice_index sets (get_or hs i no_holding).job) (placed (new_waits (take i hs) (get_or hs i no_holding)))
+      → new.mask ≡ join (mask_at sets (get_or hs i no_holding).job) (placed (new_waits (take i hs) (get_or hs i no_holding)))
       → Waiting hs (set sets (get_or hs i no_holding).job new) (i + 1)
   waiting_more new near is = record {
     long = length-set sets h.job new ∙ inv.long;
-    told = λ p m. elim (cases_eq h.job p) [ inl e ↦ here p m e | inr ne ↦ get_or-set_other sets h.job p new 0 (λ e. ne (sym e)) ∙ other p m ne ];
+    told = λ p m. elim (cases_eq h.job p) [ inl e ↦ here p m e | inr ne ↦ ap (λ (s : PlaceSet). s.mask) (get_or-set_other sets h.job p new nobody (λ e. ne (sym e))) ∙ other p m ne ];
   }
     where
-      here : (p : ℕ) → p < 16 → h.job ≡ p → slice_index (set sets h.job new) p ≡ placed (waits (take (i + 1) hs) p)
+      here : (p : ℕ) → p < 16 → h.job ≡ p → mask_at (set sets h.job new) p ≡ placed (waits (take (i + 1) hs) p)
       here p m e =
-          ap (slice_index (set sets h.job new)) (sym e) ∙ get_or-set_same sets h.job new 0 (omega (arith, inv.long)) ∙ is
-          ∙ ap (λ q. join (slice_index sets q) (placed (new_waits (take i hs) h))) e
-          ∙ waits_own p hs i l (slice_index sets p) (inv.told p m) no_holding e
+          ap (mask_at (set sets h.job new)) (sym e) ∙ ap (λ (s : PlaceSet). s.mask) (get_or-set_same sets h.job new nobody (omega (arith, inv.long))) ∙ is
+          ∙ ap (λ q. join (mask_at sets q) (placed (new_waits (take i hs) h))) e
+          ∙ waits_own p hs i l (mask_at sets p) (inv.told p m) no_holding e

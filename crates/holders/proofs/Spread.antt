@@ -5,8 +5,8 @@ use Rattle.std.specs.List.{zip, range_with_len}
 use Rattle.protocol.specs.declared.places.PlaceSet.{PlaceSet}
 use Rattle.protocol.specs.Holdings.{spread, rounds, reach}
 use Rattle.protocol.specs.Places.{has, join, placed}
-use Rattle.std.specs.Prelude.{slice_index}
 use Rattle.protocol.proofs.SetDigits.{has_placed}
+use Rattle.holders.specs.Sets.{mask_at}
 use Rattle.holders.proofs.Joins.{none_join, join_comm, placed_join, placed_cond}
 
 pub spread_none : (w : ℕ → ℕ) (s : ℕ) → spread w 0 s ≡ s
@@ -31,37 +31,40 @@ spread_step w n s b h = ap (λ k. spread w k s) (add-one n) ∙ spread_more w n 
 
 -- the set, with one of a row of sets, where s has its place
 abbrev pub with_set : PlaceSet → PlaceSet → ℕ × PlaceSet → PlaceSet
-with_set s all p = cond (has s p.0) (join all p.1) all
+with_set s all p = cond (has s.mask p.0) (record { mask = join all.mask p.1.mask }) all
 
 module _ (w : ℕ → ℕ) (s : PlaceSet) where
   -- the first set of the row is for place a
-  spread_folded : (a : ℕ) (row : List PlaceSet) (all : PlaceSet) → ((k : ℕ) → k < length row → slice_index row k ≡ w (a + k)) → all ≡ spread w a s
-      → fold (with_set s) all (zip (range_with_len a (length row)) row) ≡ spread w (a + length row) s
-  spread_folded a [] all is so = so ∙ ap (λ n. spread w n s) (omega arith)
+  spread_folded : (a : ℕ) (row : List PlaceSet) (all : PlaceSet) → ((k : ℕ) → k < length row → mask_at row k ≡ w (a + k)) → all.mask ≡ spread w a s.mask
+      → (fold (with_set s) all (zip (range_with_len a (length row)) row)).mask ≡ spread w (a + length row) s.mask
+  spread_folded a [] all is so = so ∙ ap (λ n. spread w n s.mask) (omega arith)
   spread_folded a (x ∷ row) all is so =
-      spread_folded (a + 1) row (with_set s all (a, x)) (λ k l. is (suc k) (omega arith) ∙ ap w (omega arith)) (go (has s a) refl)
-      ∙ ap (λ n. spread w n s) (omega arith)
+      spread_folded (a + 1) row (with_set s all (a, x)) (λ k l. is (suc k) (omega arith) ∙ ap w (omega arith)) (go (has s.mask a) refl)
+      ∙ ap (λ n. spread w n s.mask) (omega arith)
     where
-      first : x ≡ w a
+      first : x.mask ≡ w a
       first = is 0 (omega arith) ∙ ap w (omega arith)
 
-      go : (b : Bool) → has s a ≡ b → cond b (join all x) all ≡ spread w (a + 1) s
-      go true h = join_comm all x ∙ ap₂ join first so ∙ sym (spread_step w a s true h)
-      go false h = so ∙ sym (spread_step w a s false h ∙ none_join (spread w a s))
+      more : PlaceSet
+      more = record { mask = join all.mask x.mask }
 
-pub spread_row : (n : ℕ) (row : List PlaceSet) (set : PlaceSet) → length row ≡ n → fold (with_set set) set (zip (range_with_len 0 n) row) ≡ spread (slice_index row) n set
+      go : (b : Bool) → has s.mask a ≡ b → (cond b more all).mask ≡ spread w (a + 1) s.mask
+      go true h = join_comm all.mask x.mask ∙ ap₂ join first so ∙ sym (spread_step w a s.mask true h)
+      go false h = so ∙ sym (spread_step w a s.mask false h ∙ none_join (spread w a s.mask))
+
+pub spread_row : (n : ℕ) (row : List PlaceSet) (set : PlaceSet) → length row ≡ n → (fold (with_set set) set (zip (range_with_len 0 n) row)).mask ≡ spread (mask_at row) n set.mask
 spread_row n row set long =
-    let w = slice_index row in
+    let w = mask_at row in
     rw (← long)
-    (spread_folded w set 0 row set (λ k l. ap w (omega arith)) (sym (spread_none w set)) ∙ ap (λ n. spread w n set) (omega arith))
+    (spread_folded w set 0 row set (λ k l. ap w (omega arith)) (sym (spread_none w set.mask)) ∙ ap (λ n. spread w n set.mask) (omega arith))
 
 -- one round after another
 abbrev pub round : (ℕ → ℕ) → PlaceSet → ℕ → PlaceSet
-round w all n = spread w 16 all
+round w all n = record { mask = spread w 16 all.mask }
 
-pub rounds_folded : (w : ℕ → ℕ) (ns : List ℕ) (all : PlaceSet) → (fold (round w) all ns) ≡ rounds w (length ns) all
-rounds_folded w [] all = sym (rounds_none w all)
-rounds_folded w (n ∷ ns) all = rounds_folded w ns (round w all n) ∙ sym (rounds_more w (length ns) all)
+pub rounds_folded : (w : ℕ → ℕ) (ns : List ℕ) (all : PlaceSet) → (fold (round w) all ns).mask ≡ rounds w (length ns) all.mask
+rounds_folded w [] all = sym (rounds_none w all.mask)
+rounds_folded w (n ∷ ns) all = rounds_folded w ns (round w all n) ∙ sym (rounds_more w (length ns) all.mask)
 
 -- ---- the places
 -- only the sixteen places count: v has what w says of each of them, cut to the places

@@ -9,7 +9,7 @@ use protocol::{Holding, PlaceSet};
 // The test is a closure; the contract names it by any function that says what the closure answers.
 pub(crate) fn jobs_passing<F: Fn(&Holding) -> bool>(holdings: &[Holding], passes: F) -> PlaceSet
     requires { F.IsAlwaysCallable passes }
-    ensures { (test : Holding → Bool) → ((h : _) (b : Bool) → F.post passes h b → b ≡ test h.now) → result ≡ placed (jobs_of test holdings.now) }
+    ensures { (test : Holding → Bool) → ((h : _) (b : Bool) → F.post passes h b → b ≡ test h.now) → result.mask ≡ placed (jobs_of test holdings.now) }
 {
     holdings.iter().fold(PlaceSet::EMPTY, |set, holding| {
         if passes(holding) {

@@ -60,7 +60,7 @@ pub fn position(holdings: &[Holding], place: u8, object: u64) -> usize
 
 // The makers of the object.
 pub fn makers(holdings: &[Holding], object: u64) -> PlaceSet
-    ensures { result ≡ placed (makers_of object holdings.now) }
+    ensures { result.mask ≡ placed (makers_of object holdings.now) }
 {
     jobs_passing(holdings, |holding| {
         holding.object == object && holding.state == HoldingState::Turned
@@ -69,7 +69,7 @@ pub fn makers(holdings: &[Holding], object: u64) -> PlaceSet
 
 // Those of them that locked the object after a job did; none where it does not hold it.
 pub fn later_makers(holdings: &[Holding], object: u64, place: u8) -> PlaceSet
-    ensures { result ≡ placed (later_makers object place holdings.now) }
+    ensures { result.mask ≡ placed (later_makers object place holdings.now) }
 {
     let own = holdings
         .iter()

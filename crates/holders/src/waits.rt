@@ -1,8 +1,9 @@
 // Who waits for whom.
-ghost use Rattle.std.specs.Prelude.{◌≡◌, ℕ, ◌<◌, ◌&&◌, ◌==◌, not, length, slice_index};
+ghost use Rattle.std.specs.Prelude.{◌≡◌, ℕ, ◌<◌, ◌&&◌, ◌==◌, not, length};
 ghost use Rattle.std.specs.List.{list_any};
 ghost use Rattle.protocol.specs.Holdings.{clash, waits, new_waits};
 ghost use Rattle.protocol.specs.Places.{placed};
+ghost use Rattle.holders.specs.Sets.{mask_at};
 
 use super::gathering::jobs_passing;
 use protocol::{Holding, HoldingState, PlaceSet};
@@ -17,7 +18,7 @@ fn clashes(first: &Holding, second: &Holding) -> bool
 
 // The jobs for which the job of a new holding waits on its account. It is copied, so that it is read once and not beside each of the others.
 pub fn new_waits(holdings: &[Holding], new: &Holding) -> PlaceSet
-    ensures { result ≡ placed (new_waits holdings.now new.now) }
+    ensures { result.mask ≡ placed (new_waits holdings.now new.now) }
 {
     let new = *new;
     jobs_passing(holdings, |earlier| {
@@ -27,7 +28,7 @@ pub fn new_waits(holdings: &[Holding], new: &Holding) -> PlaceSet
 
 // What one job waits for, over its own holdings: for each, those that were in the way.
 fn waits_by_own(holdings: &[Holding], place: u8) -> PlaceSet
-    ensures { result ≡ placed (waits holdings.now place) }
+    ensures { result.mask ≡ placed (waits holdings.now place) }
 {
     holdings
         .iter()
@@ -59,7 +60,7 @@ fn looks_by_own(holdings: &[Holding], place: u8) -> usize {
 
 // The jobs for which one job waits. It goes over the holdings of others, each with a look at all behind it, and turns to the job's own once it has looked at more than these would.
 pub fn waits_of(holdings: &[Holding], place: u8) -> PlaceSet
-    ensures { result ≡ placed (waits holdings.now place) }
+    ensures { result.mask ≡ placed (waits holdings.now place) }
 {
     let most = looks_by_own(holdings, place);
     let mut looks: usize = 0;
@@ -82,7 +83,7 @@ pub fn waits_of(holdings: &[Holding], place: u8) -> PlaceSet
 
 // The jobs for which each job waits, by its place: an array, since there are sixteen places. One pass, in which each holding adds to the set of its job.
 pub fn waiting(holdings: &[Holding]) -> [PlaceSet; 16]
-    ensures each { (p : ℕ) → p < 16 → slice_index result p ≡ placed (waits holdings.now p) }
+    ensures each { (p : ℕ) → p < 16 → mask_at result p ≡ placed (waits holdings.now p) }
     ensures all { length result ≡ 16 }
 {
     let mut sets = [PlaceSet::EMPTY; 16];

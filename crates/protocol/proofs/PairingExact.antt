@@ -70,8 +70,8 @@ module _ (r : Rule) (m : Model) (p o : ℕ) (mode : Mode) where
   only e f x own w = λ i. record {
     job = (own ∙ sym w.own) i;
     assumes = record {
-      commits = same_members _ _ (λ k. has_join (commits_of e.assumes) (commits_of f.assumes) k ∙ sym (w.commits k)) i;
-      aborts = same_members _ _ (λ k. has_join (aborts_of e.assumes) (aborts_of f.assumes) k ∙ sym (w.aborts k)) i;
+      commits = record { mask = same_members _ _ (λ k. has_join (commits_of e.assumes) (commits_of f.assumes) k ∙ sym (w.commits k)) i };
+      aborts = record { mask = same_members _ _ (λ k. has_join (aborts_of e.assumes) (aborts_of f.assumes) k ∙ sym (w.aborts k)) i };
     };
     work = sym w.works i;
     tally = (ap (λ n. e.tally + n) (grows e f) ∙ sym w.counts) i;

@@ -63,7 +63,7 @@ same_set : (s u k : ℕ) → ((q : ℕ) → has u q ≡ (has s q && not (eqb k q
 same_set s u k f = same_members _ _ (λ q. taken s k q ∙ sym (f q))
 
 same_out : (k : ℕ) (a b : Assumption) → TakenOut k a b → settled k a ≡ b
-same_out k a b t = λ i. record { commits = same_set (commits_of a) (commits_of b) k t.commits i; aborts = same_set (aborts_of a) (aborts_of b) k t.aborts i }
+same_out k a b t = λ i. record { commits = record { mask = same_set (commits_of a) (commits_of b) k t.commits i }; aborts = record { mask = same_set (aborts_of a) (aborts_of b) k t.aborts i } }
 
 -- ---- the three kinds of records
 module _ (how : Ending) (k : ℕ) where

@@ -4,12 +4,12 @@ use Rattle.protocol.specs.declared.assumptions.Assumption.{Assumption}
 
 -- the jobs taken to commit
 abbrev pub commits_of : Assumption → ℕ
-commits_of a = a.commits
+commits_of a = a.commits.mask
 
 -- the jobs taken to abort
 abbrev pub aborts_of : Assumption → ℕ
-aborts_of a = a.aborts
+aborts_of a = a.aborts.mask
 
 -- the assumption that takes these to commit and those to abort
 abbrev pub assume : ℕ → ℕ → Assumption
-assume commits aborts = record { commits = commits; aborts = aborts }
+assume commits aborts = record { commits = record { mask = commits }; aborts = record { mask = aborts } }

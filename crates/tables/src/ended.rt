@@ -31,7 +31,7 @@ impl Ended {
     // The set without the job.
     #[tactic(auto, using(crate::proofs::PlaceLaws::without_placed))]
     fn without(self, set: PlaceSet) -> PlaceSet
-        ensures { result ≡ without set (single self.place) }
+        ensures { result.mask ≡ without set.mask (single self.place) }
     {
         set.without(PlaceSet::only(self.place))
     }

@@ -1,9 +1,10 @@
 use Rattle.std.proofs.Common.{◌≡◌, get_or, take, ap, ap₂, ◌∙◌, arith}
-use Rattle.std.specs.Prelude.{slice_index}
 use Rattle.std.proofs.lemmas.List.{take_all, get_or_default}
 use Rattle.protocol.specs.Holdings.{waits, new_waits}
 use Rattle.protocol.specs.Places.{join, placed}
 use Rattle.protocol.specs.Empty.{no_holding}
+use Rattle.protocol.specs.declared.places.PlaceSet.{PlaceSet}
+use Rattle.holders.specs.Sets.{nobody, mask_at}
 use Rattle.holders.proofs.OneMore.{waiting_none, waiting_more, waiting_skip}
 use Rattle.holders.proofs.waits.waiting.Goals as goal
 use Rattle.holders.proofs.waits.waiting.Goals.{then-place-lt16, else-place-lt16}
@@ -20,9 +21,9 @@ loop-i-preserved c =
     let h = get_or hs i no_holding in
     elim c.if-place-lt16.branch [
       | then-place-lt16 w ↦
-          let new : w.new_waits.result ≡ placed (new_waits (take i hs) h) = cc in
-          let is : w.joined.result ≡ join (slice_index sets h.job) (placed (new_waits (take i hs) h)) =
-          w.joined.ensures ∙ ap₂ join (get_or_default sets h.job _ 0 (omega (arith, c.loop-i.invariant.long, w.if-place-lt16.true))) new in
+          let new : w.new_waits.result.mask ≡ placed (new_waits (take i hs) h) = cc in
+          let is : w.joined.result.mask ≡ join (mask_at sets h.job) (placed (new_waits (take i hs) h)) =
+          w.joined.ensures ∙ ap₂ join (ap (λ (s : PlaceSet). s.mask) (get_or_default sets h.job _ nobody (omega (arith, c.loop-i.invariant.long, w.if-place-lt16.true)))) new in
           rw w.sets-is (waiting_more hs sets i l c.loop-i.invariant w.joined.result w.if-place-lt16.true is)
       | else-place-lt16 w ↦ rw w.sets-is (waiting_skip hs sets i l c.loop-i.invariant w.if-place-lt16.false)
     ]

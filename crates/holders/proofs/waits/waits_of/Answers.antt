@@ -14,7 +14,7 @@ pub loop-i-preserved : goal.loop-i-preserved
 loop-i-preserved c =
     let p = c.args.place in
     let hs = c.args.holdings.now in
-    let set = c.loop-i.set in
+    let set = c.loop-i.set.mask in
     let i = c.loop-i.i in
     let h = get_or hs i no_holding in
     let inv = c.loop-i.invariant in
@@ -22,8 +22,8 @@ loop-i-preserved c =
     elim c.if-holding-place.branch [
       | then-holding-place+then-holding-lt16+then-not-has+then-is_in_the_way w ↦
           let told : blocks p h (drop (i + 1) hs) ≡ true = ap (blocks p h) (sym (take_rest hs (i + 1))) ∙ sym w.is_in_the_way.ensures ∙ w.if-is_in_the_way.true in
-          let new : w.joined-set.result ≡ join set (placed (single h.job)) = cc in
-          rw w.set-is (gathered_more p hs set i inv l told w.joined-set.result new)
+          let new : w.joined-set.result.mask ≡ join set (placed (single h.job)) = cc in
+          rw w.set-is (gathered_more p hs set i inv l told w.joined-set.result.mask new)
       | then-holding-place+then-holding-lt16+then-not-has+else-is_in_the_way w ↦
           let told : blocks p h (drop (i + 1) hs) ≡ false = ap (blocks p h) (sym (take_rest hs (i + 1))) ∙ sym w.is_in_the_way.ensures ∙ w.if-is_in_the_way.false in
           rw w.set-is (gathered_less p hs set i inv l told)
@@ -37,4 +37,4 @@ loop-i-preserved c =
     ]
 
 pub returns : goal.returns
-returns c = gathered_all c.args.place c.args.holdings.now c.loop-i.set c.loop-i.i c.loop-i.invariant c.loop-i-test.false
+returns c = gathered_all c.args.place c.args.holdings.now c.loop-i.set.mask c.loop-i.i c.loop-i.invariant c.loop-i-test.false

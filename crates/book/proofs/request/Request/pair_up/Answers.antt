@@ -1,4 +1,4 @@
-use Rattle.std.proofs.Common.{cond, map, Some, None, Ok, Err, ◌∙◌, rules, arith}
+use Rattle.std.proofs.Common.{cond, map, get_or, Some, None, Ok, Err, ◌∙◌, rules, arith}
 use Rattle.std.specs.Prelude.{filter}
 use Rattle.std.proofs.lemmas.Bool.{eq-eqb, ne_eqb}
 use Rattle.std.proofs.lemmas.Iterator.{YieldsList-from_slice}
@@ -8,7 +8,7 @@ use Rattle.protocol.specs.declared.assumptions.Offer.{Offer}
 use Rattle.protocol.specs.Pairing.{is_kept}
 use Rattle.tables.specs.Items.{items}
 use Rattle.book.specs.Meeting.{meeting, Added}
-use Rattle.book.proofs.Kept.{adds_kept, more, passed, over, all_added}
+use Rattle.book.proofs.Kept.{adds_kept, past_all, more, passed, over, all_added}
 use Rattle.book.proofs.request.Request.pair_up.Goals as goal
 use Rattle.book.proofs.request.Request.pair_up.Goals.{then-execution-self+in_ok-add_all, else-execution-self}
 
@@ -21,7 +21,7 @@ loop-execution-preserved g c =
     let os = c.args.offers.now in
     let es = c.args.executions.now in
     let i = c.loop-execution.execution-index in
-    let e = c.execution-item.result in
+    let e = get_or es i past_all in
     let found = c.loop-execution.found in
     let inv = c.loop-execution.invariant in
     elim c.if-execution-self.branch [
@@ -30,12 +30,12 @@ loop-execution-preserved g c =
           adds_kept (is_kept r) (f e) os found w.add_all.new.self (Ok tt) w.in_ok-add_all.ensures
           (YieldsList-from_filter_map {s = w.filter_map.result} _ (λ (o : Offer). cond (is_kept r (f e o)) (Some (f e o)) None) (YieldsList-from_slice os cc) w.filter_map.ensures.closure (λ x r q k. search rules)) in
           rw w.found-is record {
-            adds = more r f os p es i (items c.args.found.now.pairs) (items found.pairs) inv.adds e (items w.add_all.new.self.pairs) c.loop-execution-test.true c.execution-item.is (eq-eqb e.job p w.if-execution-self.true) a.added.0;
+            adds = more r f os p es i (items c.args.found.now.pairs) (items found.pairs) inv.adds (items w.add_all.new.self.pairs) c.loop-execution-test.true (eq-eqb e.job p w.if-execution-self.true) a.added.0;
             within = a.within ∙ inv.within;
           }
       | else-execution-self w ↦
           rw w.found-is record {
-            adds = passed r f os p es i (items c.args.found.now.pairs) (items found.pairs) inv.adds e c.loop-execution-test.true c.execution-item.is (ne_eqb e.job p w.if-execution-self.false);
+            adds = passed r f os p es i (items c.args.found.now.pairs) (items found.pairs) inv.adds c.loop-execution-test.true (ne_eqb e.job p w.if-execution-self.false);
             within = inv.within;
           }
     ]
@@ -49,7 +49,7 @@ returns-in_err-add_all g c =
     let os = c.args.offers.now in
     let es = c.args.executions.now in
     let i = c.loop-execution.execution-index in
-    let e = c.execution-item.result in
+    let e = get_or es i past_all in
     let found = c.loop-execution.found in
     let inv = c.loop-execution.invariant in
     let a : Added found (filter (is_kept r) (map (f e) os)) c.add_all.new.self (Err c.in_err-add_all.field-0.0) =
@@ -57,7 +57,7 @@ returns-in_err-add_all g c =
     (YieldsList-from_filter_map {s = c.filter_map.result} _ (λ (o : Offer). cond (is_kept r (f e o)) (Some (f e o)) None) (YieldsList-from_slice os cc) c.filter_map.ensures.closure (λ x r q k. search rules)) in
     let is = err_from_is_err_and c.from_residual.result c.from_residual.ensures.1 in
     rw (is.1, is.2) record {
-      added = (a.added.0, over r f os p es i (items c.args.found.now.pairs) (items found.pairs) inv.adds e c.args.found.now.limit c.loop-execution-test.true c.execution-item.is (eq-eqb e.job p c.if-execution-self.true) (omega (arith, a.added.1, inv.within)));
+      added = (a.added.0, over r f os p es i (items c.args.found.now.pairs) (items found.pairs) inv.adds c.args.found.now.limit c.loop-execution-test.true (eq-eqb e.job p c.if-execution-self.true) (omega (arith, a.added.1, inv.within)));
       within = a.within ∙ inv.within;
     }
 

@@ -15,5 +15,5 @@ returns-then-is_some c =
     let p = c.args.place in
     let hs = items b.holdings in
     let runs : is_some (job_at (view [] b) p) ≡ true = search rules in
-    let w : c.waits_of.result ≡ waits hs p = c.waits_of.ensures ∙ ap (λ l. placed (waits l p)) c.in_use.ensures ∙ waits_placed hs p (within_placed b.jobs hs b.places b.holds) in
+    let w : c.waits_of.result.mask ≡ waits hs p = c.waits_of.ensures ∙ ap (λ l. placed (waits l p)) c.in_use.ensures ∙ waits_placed hs p (within_placed b.jobs hs b.places b.holds) in
     c.is_empty.ensures ∙ ap (λ n. eqb n 0) w ∙ ap (λ a. a && eqb (waits hs p) 0) (sym runs)

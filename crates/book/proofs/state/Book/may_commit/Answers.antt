@@ -28,7 +28,7 @@ returns-then-not-is_empty c =
     let m = view [] b in
     let p = c.args.place.number in
     let hs = items b.holdings in
-    let w : c.waits_of.result ≡ waits hs p = c.waits_of.ensures ∙ ap (λ l. placed (waits l p)) c.in_use-holdings.ensures ∙ waits_placed hs p (within_placed b.jobs hs b.places b.holds) in
+    let w : c.waits_of.result.mask ≡ waits hs p = c.waits_of.ensures ∙ ap (λ l. placed (waits l p)) c.in_use-holdings.ensures ∙ waits_placed hs p (within_placed b.jobs hs b.places b.holds) in
     sym (
     first_append (no_live_job m p) (commit_barred m p) c.in_ok-live_job.ensures.0
     ∙ commit_waits m p (sym (c.if-has_open.ensures ∙ ap (list_any (λ h. held_by p h && opened h.state)) c.in_use-holdings.ensures)) (sym (c.if-not-is_empty.ensures ∙ ap (λ n. eqb n 0) w))
@@ -40,7 +40,7 @@ returns c =
     let m = view [] b in
     let p = c.args.place.number in
     let hs = items b.holdings in
-    let w : c.waits_of.result ≡ waits hs p = c.waits_of.ensures ∙ ap (λ l. placed (waits l p)) c.in_use-holdings.ensures ∙ waits_placed hs p (within_placed b.jobs hs b.places b.holds) in
+    let w : c.waits_of.result.mask ≡ waits hs p = c.waits_of.ensures ∙ ap (λ l. placed (waits l p)) c.in_use-holdings.ensures ∙ waits_placed hs p (within_placed b.jobs hs b.places b.holds) in
     sym (
     first_append (no_live_job m p) (commit_barred m p) c.in_ok-live_job.ensures.0
     ∙ commit_free m p (sym (c.if-has_open.ensures ∙ ap (list_any (λ h. held_by p h && opened h.state)) c.in_use-holdings.ensures)) (sym (c.if-not-is_empty.ensures ∙ ap (λ n. eqb n 0) w))
