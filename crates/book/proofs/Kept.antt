@@ -1,8 +1,7 @@
 -- What is added of a chain, and the pairs of a job's executions, one execution after another.
-use Rattle.std.proofs.Common.{ℕ, ◌≡◌, ◌+◌, ◌<◌, ◌≤◌, Bool, true, false, cond, eqb, List, [], ◌∷◌, ◌++◌, map, length, get_or, drop, Some, None, Option, Ok, Err, Result, refl, sym, ap, ◌∙◌, subst, arith}
+use Rattle.std.proofs.Common.{ℕ, ◌≡◌, ◌+◌, ◌<◌, ◌≤◌, Bool, true, false, cond, eqb, List, [], ◌∷◌, ◌++◌, map, length, get_or, drop, Option, Ok, Err, Result, refl, sym, ap, ◌∙◌, subst, arith}
 use Rattle.std.specs.Prelude.{filter}
 use Rattle.std.specs.Iterator.{DrainsIf}
-use Rattle.std.specs.List.{filter_map, cons_option}
 use Rattle.std.specs.Result.{IsOk}
 use Rattle.std.proofs.lemmas.Iterator.{YieldsList, items_from_drains}
 use Rattle.std.proofs.lemmas.Iterator.Consumers.{YieldsList-so_far}
@@ -31,18 +30,19 @@ adds_all {all = all} before after (Err e) d road =
       within = d.2.within;
     }
 
--- what is kept of what is made of each
-kept_of : {X Y : Type 0} (t : Y → Bool) (f : X → Y) (xs : List X) → filter_map (λ x. cond (t (f x)) (Some (f x)) None) xs ≡ filter t (map f xs)
+-- what is made of those for which it is kept, is what is kept of what is made of each
+kept_of : {X Y : Type 0} (t : Y → Bool) (f : X → Y) (xs : List X) → map f (filter (λ x. t (f x)) xs) ≡ filter t (map f xs)
 kept_of t f [] = refl
-kept_of {Y = Y} t f (x ∷ xs) = ap (cons_option (cond (t (f x)) (Some (f x)) None)) (kept_of t f xs) ∙ put (t (f x)) (f x) (filter t (map f xs))
+kept_of {X = X} {Y = Y} t f (x ∷ xs) = go (t (f x)) (kept_of t f xs)
   where
-    put : (b : Bool) (y : Y) (ys : List Y) → cons_option (cond b (Some y) None) ys ≡ cond b (y ∷ ys) ys
-    put true y ys = refl
-    put false y ys = refl
+    go : (b : Bool) → map f (filter (λ x. t (f x)) xs) ≡ filter t (map f xs)
+        → map f (cond b (x ∷ filter (λ x. t (f x)) xs) (filter (λ x. t (f x)) xs)) ≡ cond b (f x ∷ filter t (map f xs)) (filter t (map f xs))
+    go true e = ap (λ ys. f x ∷ ys) e
+    go false e = e
 
 -- all that is kept is added, or it would be too much
 pub adds_kept : {S X : Type 0} {gives : S → Option Execution → S → Type 0} {them : S} (t : Execution → Bool) (f : X → Execution) (xs : List X) (before after : Found) (r : Result (Unit {0}) Refusal)
-    → (came : List Execution) × DrainsIf gives (IsOk r) them came × Added before came after r → YieldsList gives (λ x. x) them (filter_map (λ x. cond (t (f x)) (Some (f x)) None) xs) → Added before (filter t (map f xs)) after r
+    → (came : List Execution) × DrainsIf gives (IsOk r) them came × Added before came after r → YieldsList gives (λ x. x) them (map f (filter (λ x. t (f x)) xs)) → Added before (filter t (map f xs)) after r
 adds_kept t f xs before after r d road = subst (λ l. Added before l after r) (kept_of t f xs) (adds_all before after r d road)
 
 -- what a read past the end of a list of executions gives

@@ -1,24 +1,47 @@
 // An execution meets an offer.
-ghost use Rattle.std.specs.Prelude.{◌≡◌, if◌then◌else◌, Some, None};
+ghost use Rattle.std.specs.Prelude.{◌≡◌, ◌+◌, true};
+ghost use Rattle.protocol.specs.Assumptions.{commits_of, aborts_of, assume};
 ghost use Rattle.protocol.specs.Pairing.{is_kept};
+ghost use Rattle.protocol.specs.Places.{join, without, size};
 ghost use Rattle.book.specs.Meeting.{meeting};
 
 use super::request::Request;
-use protocol::{Assumption, Execution, Offer};
+use protocol::{Assumption, Execution, Offer, PlaceSet};
 use terms::JobRule;
 
+// What the two take of how running jobs will end.
+fn joined(execution: &Execution, offer: &Offer) -> Assumption
+    ensures { result ≡ assume (join (commits_of execution.now.assumes) (commits_of offer.now.assumes)) (join (aborts_of execution.now.assumes) (aborts_of offer.now.assumes)) }
+{
+    let old = execution.assumes;
+    Assumption {
+        commits: old.commits.joined(offer.assumes.commits),
+        aborts: old.aborts.joined(offer.assumes.aborts),
+    }
+}
+
+// The tally, once these jobs are taken to abort.
+fn tally(execution: &Execution, aborts: PlaceSet) -> u32
+    ensures { result ≡ execution.now.tally + size (without aborts.mask (aborts_of execution.now.assumes)) }
+{
+    u32::from(execution.tally) + aborts.without(execution.assumes.aborts).size()
+}
+
 impl<R: JobRule> Request<'_, R> {
-    // The pair of the two, if it is kept.
-    pub(crate) fn meet(&self, execution: &Execution, offer: &Offer) -> Option<Execution>
-        ensures { result ≡ (if is_kept self.now.robustness (meeting (R.JobRule.means self.now.rule.now) self.now execution.now offer.now) then Some (meeting (R.JobRule.means self.now.rule.now) self.now execution.now offer.now) else None) }
+    // Whether the pair of the two is kept.
+    pub(crate) fn keeps(&self, execution: &Execution, offer: &Offer) -> bool
+        ensures { result ≡ is_kept self.now.robustness (meeting (R.JobRule.means self.now.rule.now) self.now execution.now offer.now) }
     {
-        let old = execution.assumes;
-        let commits = old.commits.joined(offer.assumes.commits);
-        let aborts = old.aborts.joined(offer.assumes.aborts);
-        let tally = u32::from(execution.tally) + aborts.without(old.aborts).size();
-        if !commits.is_disjoint(aborts) || tally > u32::from(self.robustness) {
-            return None;
-        }
+        let Assumption { commits, aborts } = joined(execution, offer);
+        commits.is_disjoint(aborts) && tally(execution, aborts) <= u32::from(self.robustness)
+    }
+
+    // The pair of the two.
+    pub(crate) fn meet(&self, execution: &Execution, offer: &Offer) -> Execution
+        requires { is_kept self.now.robustness (meeting (R.JobRule.means self.now.rule.now) self.now execution.now offer.now) ≡ true }
+        ensures { result ≡ meeting (R.JobRule.means self.now.rule.now) self.now execution.now offer.now }
+    {
+        let assumes = joined(execution, offer);
         let mut met = execution.met;
         met[self.held] = offer.value;
         let work = self.rule.take(
@@ -29,12 +52,12 @@ impl<R: JobRule> Request<'_, R> {
             self.mode,
             offer.value,
         );
-        Some(Execution {
-            assumes: Assumption { commits, aborts },
+        Execution {
+            assumes,
             work,
-            tally: tally as u8,
+            tally: tally(execution, assumes.aborts) as u8,
             met,
             ..*execution
-        })
+        }
     }
 }
